@@ -133,7 +133,7 @@ fn put_library(page: &mut Vec<u8>, upper: &[u8]) -> Result<bool, AllocError> {
     Ok(is_there)
 }
 
-/// Adds how a word is written that has no blank where one belongs, if it is one. Answers whether it is so.
+/// Adds how a word is written that lacks a blank, if it is one. Answers whether it is so.
 fn put_blanks(page: &mut Vec<u8>, word: Spelled<'_>) -> Result<bool, AllocError> {
     if let Some(front) = front_of(word.upper) {
         let front = Value {

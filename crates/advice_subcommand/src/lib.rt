@@ -1,8 +1,9 @@
 //! `advise` over the file that the command line names.
 #![tactic(auto)]
 
-ghost use Rattle.std.specs.Prelude.{◌≡◌, ◌⊎◌, false, true, IfErr, IfOk, IsNone};
-ghost use Rattle.named_files.specs.Done.{IsPassedOn, Refuses, done, status_of};
+ghost use Rattle.std.specs.Prelude.{◌≡◌, ◌⊎◌, false, true, IfOk, IsNone};
+ghost use Rattle.named_files.specs.Done.{IsPassedOn, Refuses, status_of};
+ghost use Rattle.named_files.specs.Begun.{Began, NotBegun};
 ghost use Rattle.subcommands.specs.Lines.{Prints, as_line};
 ghost use Rattle.advice_subcommand.specs.Advised.{Advises, EndsAdvised, advise_steps, cause};
 
@@ -83,10 +84,10 @@ fn do_advise<W: Output>(alloc: Global, case: &[u8], writer: &mut W) -> Ended
 
 /// Prints the answer to the case that `advise` names. If it cannot begin, that is printed, and the status is the error.
 pub fn advise_case<F: Files, W: Output>(files: &mut F, writer: &mut W, case: &str) -> Result<u8, u8>
-    ensures advised { IfOk result (λ status. Advises case.now status (W.failed writer.new)
-        (done (F.log files.old) (W.sent writer.old)) (done (F.log files.new) (W.sent writer.new))) }
-    ensures refused { IfErr result (λ status. Refuses (advise_steps case.now) status
-        (done (F.log files.old) (W.sent writer.old)) (done (F.log files.new) (W.sent writer.new))) }
+    ensures advised { Began F.log W.Output files.old files.new writer.old writer.new result
+        (Advises case.now) }
+    ensures refused { NotBegun F.log W.Output files.old files.new writer.old writer.new result
+        (Refuses (advise_steps case.now)) }
     ensures cut { W.failed writer.old ≡ false → W.failed writer.new ≡ true → status_of result ≡ 5 }
     ensures passed { IsPassedOn (status_of result) (W.failed writer.new) (W.passed writer.new) (W.sent writer.old) (W.sent writer.new) }
 {

@@ -54,7 +54,7 @@ unfolding unmarked
 no_more_updated u [] = omega arith
 no_more_updated u (e ∷ es) = grind (arith, count_more, mark_unmarked, no_more_updated u es)
 
--- one fewer is marked where a marked entry's block is written
+-- one fewer is marked if a marked entry's block is written
 fewer_updated : (u : ℕ) (b : List Entry) (k : ℕ) (d : Entry) → k < length b → (get_or b k d).updated ≡ true → is_of u (get_or b k d) ≡ true → count_by is_updated (unmarked u b) < count_by is_updated b
 unfolding unmarked
 fewer_updated u [] k d l h has = absurd (omega arith)

@@ -33,7 +33,7 @@ holds b u = list_any (is_of u) b
 unfoldable pub entry_at : List Entry → ℕ → Entry
 entry_at b place = slice_index_or b place (unassigned_slot 0)
 
--- the entry that is taken where a buffer is needed: the one that was not referenced for longest
+-- the entry that is taken when a buffer is needed: the one that was not referenced for longest
 abbrev pub victim : List Entry → Entry
 victim b = entry_at b (length b - 1)
 

@@ -42,7 +42,7 @@ impl Buffers {
         Buffers::with_next(count, u64::from(count))
     }
 
-    /// The same, where the stamp of the next reference is `next`.
+    /// The same, if the stamp of the next reference is `next`.
     #[tactic(auto, using(crate::proofs::Fresh::starts))]
     pub(crate) fn with_next(count: u16, next: u64) -> Buffers
         requires count { IsCount count }

@@ -33,7 +33,7 @@ fn floor_remainder(n: i64, m: i64) -> i64
     n.rem_euclid(m)
 }
 
-/// Remainder and quotient of a double by a cell, rounded to the floor (Forth-83 `/MOD`, `*/MOD`). `None` where the
+/// Remainder and quotient of a double by a cell, rounded to the floor (Forth-83 `/MOD`, `*/MOD`). `None` if the
 /// divisor is 0 or the quotient is outside -32,768..32,767.
 #[tactic(auto, unfolding(crate::specs::Cell::can_divide))]
 pub fn floor_divide(n: i32, m: i16) -> Option<(i16, i16)>
@@ -60,7 +60,7 @@ pub fn um_multiply(a: u16, b: u16) -> u32
     a as u32 * b as u32
 }
 
-/// Remainder and quotient of an unsigned double by an unsigned cell (Forth-83 `UM/MOD`). `None` where the divisor is 0
+/// Remainder and quotient of an unsigned double by an unsigned cell (Forth-83 `UM/MOD`). `None` if the divisor is 0
 /// or the quotient is above 65,535.
 #[tactic(auto, unfolding(crate::specs::Cell::um_can_divide))]
 pub fn um_divide(ud: u32, u: u16) -> Option<(u16, u16)>

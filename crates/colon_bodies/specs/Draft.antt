@@ -1,5 +1,5 @@
 -- What the compiler keeps while it reads, and what each of its steps does.
-use Rattle.std.specs.Prelude.{◌≡◌, Bool, true, false, ℕ, ◌+◌, ◌≤◌, List, [], ◌∷◌, ◌++◌, ◌⊎◌, length, Option, Some, None, Result, Ok, Err, vec_capacity}
+use Rattle.std.specs.Prelude.{◌≡◌, ◌≢◌, Bool, true, false, ℕ, ◌+◌, ◌≤◌, List, [], ◌∷◌, ◌++◌, ◌⊎◌, length, Option, Some, None, Result, Ok, Err, vec_capacity}
 use Rattle.colon_bodies.specs.declared.words.BodyWord.{BodyWord}
 use Rattle.colon_bodies.specs.declared.words.BodyWord.TheVariants as w
 use Rattle.colon_bodies.specs.declared.words.Half.{Half}
@@ -9,13 +9,13 @@ use Rattle.colon_bodies.specs.declared.draft.Mark.TheVariants as m
 use Rattle.colon_bodies.specs.declared.draft.Draft.{Draft}
 use Rattle.colon_bodies.specs.declared.fault.BodyCause.{BodyCause}
 use Rattle.colon_bodies.specs.declared.fault.BodyCause.TheVariants as r
-use Rattle.colon_bodies.specs.Tokens.{Token, NAME, NUMBER, DOUBLE, TEXT, TICK, FORCE, COMPILE, IF, ELSE, THEN, BEGIN, UNTIL, AGAIN, WHILE, REPEAT, DO, LOOP, DOES, SEMI, IsShort, AreShort}
+use Rattle.colon_bodies.specs.Tokens.{Token, NAME, NUMBER, DOUBLE, TEXT, TICK, FORCE, COMPILE, IF, ELSE, THEN, BEGIN, UNTIL, AGAIN, WHILE, REPEAT, DO, LOOP, DOES, SEMI, IsShort, AreShort, laid_by}
 use Rattle.colon_bodies.specs.Tree.{Body, Definition}
 use Rattle.colon_bodies.specs.Code.{size, whole_code}
 use Rattle.memory.specs.Bytes.{cell_bytes}
 use Rattle.memory.specs.Controls.{number_of}
 use Rattle.memory.specs.declared.controls.Control.{Control}
-use Rattle.colon_bodies.specs.Rules.{IsKnown, AreKnown}
+use Rattle.colon_bodies.specs.Rules.{IsKnown, AreKnown, suits}
 use Rattle.colon_bodies.specs.Faults.{body_cause, IsGood}
 use Rattle.colon_bodies.specs.Open.{Outer, Top, Past, InIf, InElse, InBegin, InWhile, InDo, State, At, outer_size, open_code, open_words, open_depth, past, whole, read}
 
@@ -85,6 +85,18 @@ Calls rt control w = rt (number_of control) ≡ w
 abbrev pub Steps : (ℕ → ℕ) → ℕ → Outer → Body → Half → Token → List ℕ → List Mark → Result (Unit {0}) BodyCause → List ℕ → List Mark → Type 0
 Steps rt at o t h w image marks result written kept = Drafted rt at o t h image marks → After rt at (read o t h w) result written kept
 
+-- a word that suits what is half read takes such a step, whatever was read before, and leaves the marks
+abbrev pub Completes : Token → List ℕ → Result (Unit {0}) BodyCause → List ℕ → Type 0
+Completes w image result written =
+    (rt : ℕ → ℕ) (at : ℕ) (o : Outer) (t : Body) (h : Half) (marks : List Mark) → h ≢ Free → suits h w ≡ true
+    → Steps rt at o t h w image marks result written marks
+
+-- a word that suits what is half read does so to a draft, whatever words are in it
+abbrev pub Lays : (rt : ℕ → ℕ) → (at : ℕ) → Token → Draft → Result (Unit {0}) BodyCause → Draft → Type 0
+Lays rt at w old result new =
+    (o : Outer) (t : Body) (h : Half) → suits h w ≡ true → Drafts rt at o t h old
+    → After rt at (read o t h w) result new.image.items new.marks.items
+
 -- the mark of the innermost open structure, and the structures outside it
 abbrev pub top_mark : ℕ → Outer → Option Mark
 top_mark at Top = None
@@ -140,6 +152,10 @@ opener IF = true
 opener BEGIN = true
 opener DO = true
 opener _ = false
+
+-- if the bytes of a word fit into a room of so many, and, if it opens a structure, its mark fits, this holds
+abbrev pub WithRoom : Token → (bytes capacity : ℕ) → (Fits : Type 0) → Type 0 → Type 0
+WithRoom w bytes capacity Fits Holds = bytes + laid_by w ≤ capacity → (opener w ≡ true → Fits) → Holds
 
 -- what ; makes of a draft
 pub record Finishes (rt : ℕ → ℕ) (at limit : ℕ) (o : Outer) (t : Body) (h : Half) (image : List ℕ) : Type 0 where

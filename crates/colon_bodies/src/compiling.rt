@@ -1,12 +1,11 @@
 //! The one pass over the words of a body.
 
-ghost use Rattle.std.specs.Prelude.{◌≡◌, ◌≢◌, true, ℕ, IfOk, IfErr, map, ◌+◌, ◌<◌, ◌≤◌, ◌⊎◌, ◌^◌, List, length, slice_index, vec_capacity};
+ghost use Rattle.std.specs.Prelude.{◌≡◌, ◌≢◌, ℕ, IfOk, IfErr, map, ◌+◌, ◌<◌, ◌≤◌, ◌⊎◌, ◌^◌, length, slice_index, vec_capacity};
 ghost use Rattle.colon_bodies.specs.Tree.{Body};
-ghost use Rattle.colon_bodies.specs.Tokens.{SEMI, IsShort, control_written, laid_by, laid};
-ghost use Rattle.colon_bodies.specs.Rules.{suits};
+ghost use Rattle.colon_bodies.specs.Tokens.{SEMI, IsShort, laid_by, laid};
 ghost use Rattle.colon_bodies.specs.Faults.{IsFault};
-ghost use Rattle.colon_bodies.specs.Open.{Outer, read, past, open_depth};
-ghost use Rattle.colon_bodies.specs.Draft.{token, After, Calls, Drafts, Drafting, Steps, Taken, Ended, Compiled, KeepsRoom, opener, jump_by};
+ghost use Rattle.colon_bodies.specs.Open.{Outer, past, open_depth};
+ghost use Rattle.colon_bodies.specs.Draft.{token, Calls, Completes, Drafts, Drafting, Ended, Compiled, KeepsRoom, Lays, Steps, Taken, WithRoom, jump_by};
 ghost use Rattle.memory.specs.declared.controls.Control.TheVariants as ctl;
 ghost use Rattle.colon_bodies.specs.declared.words.Half.{Half};
 ghost use Rattle.colon_bodies.specs.declared.words.Half.TheVariants.{Free};
@@ -44,9 +43,8 @@ fn step(
         Steps (slice_index runtime.now) at o t Free (token word.entry)
         image.old.items marks.old.items result image.new.items marks.new.items }
     ensures kept { (vec_capacity image.old ≤ vec_capacity image.new) × (vec_capacity marks.old ≤ vec_capacity marks.new) }
-    ensures room { length image.old.items + laid_by (token word.entry) ≤ vec_capacity image.old →
-        (opener (token word.entry) ≡ true → length marks.old.items < vec_capacity marks.old) →
-        IfErr result (λ e. e ≢ Memory) }
+    ensures room { WithRoom (token word.entry) (length image.old.items) (vec_capacity image.old)
+        (length marks.old.items < vec_capacity marks.old) (IfErr result (λ e. e ≢ Memory)) }
 {
     match word {
         BodyWord::Name(w) => lay_name(image, w),
@@ -77,9 +75,7 @@ fn step(
 
 /// Writes what one word writes after what is half read.
 fn complete_half(image: &mut Vec<u8>, word: BodyWord) -> Result<(), BodyCause>
-    ensures steps { (rt : ℕ → ℕ) (at : ℕ) (o : Outer) (t : Body) (h : Half) (marks : List Mark) → h ≢ Free →
-        suits h (token word.entry) ≡ true →
-        Steps rt at o t h (token word.entry) image.old.items marks result image.new.items marks }
+    ensures steps { Completes (token word.entry) image.old.items result image.new.items }
     ensures kept { vec_capacity image.old ≤ vec_capacity image.new }
     ensures room { length image.old.items + laid_by (token word.entry) ≤ vec_capacity image.old → IfErr result (λ e. e ≢ Memory) }
 {
@@ -95,14 +91,11 @@ fn lay(d: &mut Draft, word: BodyWord, at: u16, runtime: &[u16]) -> Result<(), Bo
     requires room { at + length d.old.image.items + jump_by (token word) < 2 ^ 16 }
     requires controls { 28 ≤ length runtime.now }
     requires short { IsShort (token word) }
-    ensures taken { (o : Outer) (t : Body) (h : Half) → suits h (token word.entry) ≡ true →
-        Drafts (slice_index runtime.now) at o t h d.old →
-        After (slice_index runtime.now) at (read o t h (token word.entry)) result d.new.image.items d.new.marks.items }
+    ensures taken { Lays (slice_index runtime.now) at (token word.entry) d.old result d.new }
     ensures half { (d.new.half ≡ d.old.half) × (d.new.is_past ≡ d.old.is_past) }
     ensures kept { KeepsRoom d.old d.new }
-    ensures room { length d.old.image.items + laid_by (token word.entry) ≤ vec_capacity d.old.image →
-        (opener (token word.entry) ≡ true → length d.old.marks.items < vec_capacity d.old.marks) →
-        IfErr result (λ e. e ≢ Memory) }
+    ensures room { WithRoom (token word.entry) (length d.old.image.items) (vec_capacity d.old.image)
+        (length d.old.marks.items < vec_capacity d.old.marks) (IfErr result (λ e. e ≢ Memory)) }
 {
     if is_free(d.half) {
         step(&mut d.image, &mut d.marks, d.is_past, word, at, runtime)?;
@@ -128,9 +121,8 @@ pub fn take_word(
     ensures taken { (o : Outer) (t : Body) (h : Half) → Drafts (slice_index runtime.now) at o t h d.old → open_depth o t ≤ 64 →
         Taken (slice_index runtime.now) at limit o t h (token word.entry) result d.new }
     ensures kept { KeepsRoom d.old d.new }
-    ensures room { length d.old.image.items + laid_by (token word.entry) ≤ vec_capacity d.old.image →
-        (opener (token word.entry) ≡ true → length d.old.marks.items < 64 → length d.old.marks.items < vec_capacity d.old.marks) →
-        IfErr result (λ e. e ≢ Memory) }
+    ensures room { WithRoom (token word.entry) (length d.old.image.items) (vec_capacity d.old.image)
+        (length d.old.marks.items < 64 → length d.old.marks.items < vec_capacity d.old.marks) (IfErr result (λ e. e ≢ Memory)) }
 {
     if !is_suited(d.half, word) {
         return Err(BodyCause::Misplaced);

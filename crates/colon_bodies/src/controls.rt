@@ -6,7 +6,7 @@ ghost use Rattle.colon_bodies.specs.Tokens.{text_control, loop_control};
 
 use memory::controls::Control;
 
-/// The compilation address of a control, where `runtime` has that of each control primitive k at k.
+/// The compilation address of a control, if `runtime` has that of each control primitive k at k.
 pub fn cell_of(runtime: &[u16], control: Control) -> u16
     requires { 28 ≤ length runtime.now }
     ensures { result ≡ slice_index runtime.now (number_of control) }

@@ -35,7 +35,7 @@ pub enum BodyWord<'a> {
     Do,
     /// LOOP, or +LOOP if this is true.
     Loop(bool),
-    /// `."` and its text, or ABORT" where the first is true.
+    /// `."` and its text, or ABORT" if the first is true.
     Text(bool, &'a [u8]),
     /// DOES>.
     Does,

@@ -124,7 +124,7 @@ pub capacity_same : (l : Layout) (c d : List ℕ) → length c ≡ length d → 
 unfolding capacity screens sectors
 capacity_same l c d e = ap (λ n. 1024 * ((n - l.offset) / track l * length l.order * l.sector / 1024)) e
 
--- the same where numbers stand for these
+-- the same if numbers stand for these
 pub product_fits : (l : Layout) (byte t p : ℕ) → IsLayout l → byte < 67108864 → t ≡ physical l.order (byte / l.sector) → p ≡ pitch l → t * p ≤ 70000000000
 product_fits l byte t p h below a b = rw (a, b) (place_fits l byte h below)
 

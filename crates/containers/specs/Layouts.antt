@@ -14,7 +14,7 @@ pub record Layout : Type 0 where
   pub order : List ℕ
   -- what comes after the bytes of each sector: the end of a line
   pub ending : List ℕ
-  -- in how many equal parts the screens come: in two, where the second is the first one's shadows
+  -- in how many equal parts the screens come: in two, if the second is the first one's shadows
   pub parts : ℕ
 
 -- none occurs twice

@@ -6,7 +6,7 @@ ghost use Rattle.containers.specs.Cleaning.{cleaned, is_text};
 ghost use Rattle.containers.specs.Layouts.{IsLayout, Layout};
 ghost use Rattle.containers.specs.Containers.{IsBeside, IsRead, IsWritten};
 
-/// What was read of a container gives the container again where it is written into it, or into one of the same length that has
+/// What was read of a container gives the container again if it is written into it, or into one of the same length that has
 /// the same bytes wherever none of the screens is.
 pub fn returning_law()
     ensures { (l : Layout) (container other screens written : List ℕ) → IsRead l container screens →

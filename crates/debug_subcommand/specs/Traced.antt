@@ -67,7 +67,7 @@ pub record EndsTracedWith (status : ℕ) (w : World) (name : List ℕ) (unread :
   pub status_is : status ≡ status_of stop
   pub ends : EndsDebugged w name unread disk sent old new stop
 
--- of each world in which a run of an image's file begins, where reader, device and writer report what they hold
+-- of each world in which a run of an image's file begins, if reader, device and writer report what they hold
 abbrev pub OfRun : (bytes : List ℕ) → RunEnds → (limit : ℕ) → (World → Type 0) → Type 0
 OfRun bytes ends limit Of = OfFile bytes ends.reader.unread ends.device.disk ends.writer.sent limit Of
 

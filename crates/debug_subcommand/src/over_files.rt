@@ -1,17 +1,18 @@
 //! `debug` over the files that the command line names.
 
-ghost use Rattle.std.specs.Prelude.{◌≡◌, false, true, IfErr, IfOk};
+ghost use Rattle.std.specs.Prelude.{◌≡◌, false, true};
 ghost use Rattle.debug_subcommand.specs.Files.{Debugs, RefusesDebug, apart_from};
 ghost use Rattle.named_files.specs.Asking.{AnswersAll, given};
-ghost use Rattle.named_files.specs.Done.{IsPassedOn, done, status_of};
+ghost use Rattle.named_files.specs.Done.{IsPassedOn, status_of};
+ghost use Rattle.named_files.specs.Begun.{Began, NotBegun};
 
 use crate::debug_command::do_debug;
 use inner_interpreter::Output;
-use named_files::Files;
+use named_files::{Ends, Guards};
 
 /// Sees to it that the trace isn't written over the blocks, if the run has some.
 #[tactic(auto, unfolding(named_files::specs::Asking::Asks))]
-fn keep_blocks_apart<F: Files>(files: &mut F, blocks: Option<&str>, trace: &str) -> Result<(), u8>
+fn keep_blocks_apart<F: Guards>(files: &mut F, blocks: Option<&str>, trace: &str) -> Result<(), u8>
     ensures asked { AnswersAll (apart_from trace.now (given blocks.entry)) result (F.log files.old).asked (F.log files.new).asked }
     ensures files { (F.log files.new).files ≡ (F.log files.old).files }
 {
@@ -23,7 +24,7 @@ fn keep_blocks_apart<F: Files>(files: &mut F, blocks: Option<&str>, trace: &str)
 
 /// Opens what `debug` names, and runs the image with a trace of the word. If nothing is run, no new trace is left. If the run cannot
 /// begin, it is printed why, and the status is the error.
-pub fn debug_word<F: Files, W: Output>(
+pub fn debug_word<F: Ends, W: Output>(
     files: &mut F,
     writer: &mut W,
     image: &str,
@@ -32,10 +33,10 @@ pub fn debug_word<F: Files, W: Output>(
     blocks: Option<&str>,
     limit: u64,
 ) -> Result<u8, u8>
-    ensures debugged { IfOk result (λ status. Debugs image.now name.now trace.now (given blocks.entry) limit status (W.failed writer.new)
-        (done (F.log files.old) (W.sent writer.old)) (done (F.log files.new) (W.sent writer.new))) }
-    ensures refused { IfErr result (λ status. RefusesDebug image.now trace.now (given blocks.entry) status
-        (done (F.log files.old) (W.sent writer.old)) (done (F.log files.new) (W.sent writer.new))) }
+    ensures debugged { Began F.log W.Output files.old files.new writer.old writer.new result
+        (Debugs image.now name.now trace.now (given blocks.entry) limit) }
+    ensures refused { NotBegun F.log W.Output files.old files.new writer.old writer.new result
+        (RefusesDebug image.now trace.now (given blocks.entry)) }
     ensures cut { W.failed writer.old ≡ false → W.failed writer.new ≡ true → status_of result ≡ 5 }
     ensures passed { IsPassedOn (status_of result) (W.failed writer.new) (W.passed writer.new) (W.sent writer.old) (W.sent writer.new) }
 {

@@ -1,4 +1,4 @@
--- Searches where a new header is in front of a chain.
+-- Searches if a new header is in front of a chain.
 use Rattle.std.proofs.Common.{◌≡◌, ◌≢◌, ℕ, suc, ◌+◌, ◌<◌, ◌≤◌, ◌∷◌, List, [], length, refl, arith, Bool, false, sym, ap, subst, ◌∙◌, inl, inr, ◌⊎◌}
 use Rattle.std.specs.Prelude.{◌==◌, find}
 use Rattle.memory.specs.Bytes.{byte, cell}

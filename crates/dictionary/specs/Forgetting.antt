@@ -43,7 +43,7 @@ cut_heads m t r =
 unfoldable pub cut_vocabulary : List ℕ → ℕ → ℕ → List Write
 cut_vocabulary m t place = if nat_le t (cell m place) then PutCell place FORTH_VOC ∷ [] else []
 
--- all that is written where what is at t and above is forgotten, in order, out of the memory before
+-- all that is written when what is at t and above is forgotten, in order, out of the memory before
 unfoldable pub cuts : List ℕ → ℕ → List Write
 cuts m t =
     PutCell VOC_LINK (kept_record m t) ∷ (flat_map (cut_heads m t) (records m 32769 (kept_record m t))

@@ -4,7 +4,7 @@ use Rattle.memory.specs.Bytes.{cell}
 use Rattle.memory.specs.declared.system.TheConstants.{CONTEXT, FORTH_VOC}
 use Rattle.dictionary.specs.declared.fault.ChainTooLong.{ChainTooLong}
 use Rattle.dictionary.specs.Header.{compilation_address, is_named, is_named_but}
-use Rattle.dictionary.specs.Chain.{chain, is_longer}
+use Rattle.dictionary.specs.Chain.{IsNewest, chain, is_longer}
 
 -- A vocabulary is known by the address of its record: four chain heads, and the cell that links to the next older
 -- record. The first byte of a name, modulo 4, is its class, and says in which of the four chains it is.
@@ -79,6 +79,10 @@ goes_on_in m voc name = is_longer m 32768 (cell m (head_of voc name))
 -- said of the members of a name's chain in a vocabulary: the name is not empty, and a search looks at all of them
 abbrev pub OfWholeChain : List ℕ → ℕ → List ℕ → (List ℕ → Type 0) → Type 0
 OfWholeChain m voc name P = 0 < length name → length (chain_in m voc name) ≤ 32768 → P (chain_in m voc name)
+
+-- a search for a name finds the newest of these headers that has it
+abbrev pub FindsNewest : List ℕ → ℕ → List ℕ → (members : List ℕ) → Type 0
+FindsNewest m voc name members = (k : ℕ) × (sought_from m voc name ≡ Found k) × IsNewest (is_named m name) members k
 
 -- said of two memories in which a search for a name looks at the same members, and the same of them have that name
 abbrev pub OfChainsAlike : (m n : List ℕ) → ℕ → List ℕ → Type 0 → Type 0

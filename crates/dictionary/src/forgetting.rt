@@ -14,8 +14,8 @@ use memory::{Memory, Snapshot};
 
 /// Where the header begins that a name means in CURRENT's vocabulary alone, if it can be forgotten.
 ///
-/// In this order: `NameLength` for the empty name; `ChainTooLong` where the search passes its limit; `NotFound` where
-/// there is no such header, or it begins below FENCE; `ChainTooLong` where more than 32,768 headers and records are
+/// In this order: `NameLength` for the empty name; `ChainTooLong` if the search passes its limit; `NotFound` if
+/// there is no such header, or it begins below FENCE; `ChainTooLong` if more than 32,768 headers and records are
 /// reached in all vocabularies.
 #[tactic(auto, unfolding(crate::specs::Forgetting::target))]
 pub fn forget_target(memory: &Memory, name: &[u8]) -> Result<u16, ForgetFault>

@@ -6,7 +6,7 @@ ghost use Rattle.memory.specs.Bytes.{cell};
 ghost use Rattle.memory.specs.declared.system.TheConstants.{FORTH_VOC, VOC_LINK};
 ghost use Rattle.dictionary.specs.Header.{count_byte, name_length, is_hidden, is_immediate, is_named};
 ghost use Rattle.dictionary.specs.Chain.{IsNewest};
-ghost use Rattle.dictionary.specs.Search.{Found, Nowhere, OfWholeChain, OfChainsAlike, goes_on_in, sought_in, sought_from};
+ghost use Rattle.dictionary.specs.Search.{FindsNewest, Found, Nowhere, OfWholeChain, OfChainsAlike, goes_on_in, sought_in, sought_from};
 ghost use Rattle.dictionary.specs.Adding.{is_name, new_count};
 ghost use Rattle.dictionary.specs.Newest.{revealed};
 ghost use Rattle.dictionary.specs.Order.{members, all_members, headers};
@@ -16,14 +16,13 @@ ghost use Rattle.dictionary.specs.Forgetting.{first_below};
 /// header of that name. If it isn't one, the search in FORTH decides.
 pub fn search_law()
     ensures newest { (m name : List ℕ) (voc l : ℕ) → OfWholeChain m voc name (λ members.
-        Contains members l → IsTrue (is_named m name l) →
-        (k : ℕ) × (sought_from m voc name ≡ Found k) × IsNewest (is_named m name) members k) }
+        Contains members l → IsTrue (is_named m name l) → FindsNewest m voc name members) }
     ensures forth { (m name : List ℕ) (voc : ℕ) → OfWholeChain m voc name (λ members.
         All (λ l. IsFalse (is_named m name l)) members → sought_from m voc name ≡ sought_in m FORTH_VOC name) }
 {}
 
-/// A search looks at 32,768 members of a chain: where these are the same in two memories and have the same names, it
-/// finds the same, and where both chains end there or both go on, it comes to the same. What comes after them doesn't
+/// A search looks at 32,768 members of a chain: if these are the same in two memories and have the same names, it
+/// finds the same, and if both chains end there or both go on, it comes to the same. What comes after them doesn't
 /// matter.
 pub fn walk_law()
     ensures found { (m n name : List ℕ) (voc l : ℕ) → OfChainsAlike m n voc name

@@ -110,7 +110,7 @@ screens_steps text blocks =
     step deed.KeepApart (text ∷ blocks ∷ []) ∷ step deed.Read (text ∷ []) ∷ step deed.KeepBlocks (blocks ∷ [])
     ∷ step deed.Hold (blocks ∷ []) ∷ step deed.Read (blocks ∷ []) ∷ []
 
--- `screens TEXT BLOCKS`; the blocks have no bytes where they don't exist
+-- `screens TEXT BLOCKS`; the blocks have no bytes if they don't exist
 pub record MakesScreens (text blocks : List ℕ) (status : ℕ) (failed : Bool) (old new : Done) : Type 0 where
   pub typed : List ℕ
   pub before : List ℕ

@@ -1,15 +1,16 @@
 //! `build` and `upgrade`.
 
-ghost use Rattle.std.specs.Prelude.{◌≡◌, ◌↔◌, false, true, IfErr, IfOk, IfSome};
+ghost use Rattle.std.specs.Prelude.{◌≡◌, ◌↔◌, false, true, IfSome};
 ghost use Rattle.memory.specs.Bytes.{IsCount};
 ghost use Rattle.file_subcommands.specs.Filed.{Builds, RefusesBuild, RefusesUpgrade, Upgrades};
-ghost use Rattle.named_files.specs.Done.{IsPassedOn, done, status_of};
+ghost use Rattle.named_files.specs.Done.{IsPassedOn, status_of};
+ghost use Rattle.named_files.specs.Begun.{Began, NotBegun};
 
 use crate::screens::Screens;
 use block_buffers::MemoryDevice;
 use image_builder::{Cause, build};
 use inner_interpreter::Output;
-use named_files::{Files, blocks_of, read_screen, write_made};
+use named_files::{Ends, Files, Guards, Places, blocks_of, read_screen, write_made};
 use subcommands::{Ended, do_build, do_upgrade};
 
 /// A number of block buffers that an image may have. The command line has no other.
@@ -31,7 +32,7 @@ fn may_be_wanted(buffers: Option<u16>) -> bool
 
 /// Says on standard error where and why the source in the screens from the first to the last is refused, with that line of
 /// the screen and a mark below the place: a copy of the blocks is built again. If it can't be found out, or can't be said, nothing is.
-fn show_place<F: Files>(
+fn show_place<F: Files + Places>(
     files: &F,
     name: &str,
     blocks: &mut MemoryDevice,
@@ -56,7 +57,7 @@ fn show_place<F: Files>(
 
 /// Builds the screens that `build` names, and writes the image. `shows_place`: where a source is refused is shown also if
 /// standard error is no terminal. If it cannot begin, that is printed, and the status is the error.
-pub fn build_image<F: Files, W: Output>(
+pub fn build_image<F: Ends + Places, W: Output>(
     files: &mut F,
     writer: &mut W,
     screens: Screens<'_>,
@@ -64,10 +65,10 @@ pub fn build_image<F: Files, W: Output>(
     buffers: u16,
     shows_place: bool,
 ) -> Result<u8, u8>
-    ensures built { IfOk result (λ status. Builds screens.entry.blocks.now screens.entry.from screens.entry.to image.now buffers status (W.failed writer.new)
-        (done (F.log files.old) (W.sent writer.old)) (done (F.log files.new) (W.sent writer.new))) }
-    ensures refused { IfErr result (λ status. RefusesBuild screens.entry.blocks.now image.now buffers status
-        (done (F.log files.old) (W.sent writer.old)) (done (F.log files.new) (W.sent writer.new))) }
+    ensures built { Began F.log W.Output files.old files.new writer.old writer.new result
+        (Builds screens.entry.blocks.now screens.entry.from screens.entry.to image.now buffers) }
+    ensures refused { NotBegun F.log W.Output files.old files.new writer.old writer.new result
+        (RefusesBuild screens.entry.blocks.now image.now buffers) }
     ensures cut { W.failed writer.old ≡ false → W.failed writer.new ≡ true → status_of result ≡ 5 }
     ensures passed { IsPassedOn (status_of result) (W.failed writer.new) (W.passed writer.new) (W.sent writer.old) (W.sent writer.new) }
 {
@@ -94,17 +95,17 @@ pub fn build_image<F: Files, W: Output>(
 
 /// Writes the image that `upgrade` names anew, for other block buffers. If it cannot begin, that is printed, and the status is the
 /// error.
-pub fn upgrade_image<F: Files, W: Output>(
+pub fn upgrade_image<F: Guards, W: Output>(
     files: &mut F,
     writer: &mut W,
     image: &str,
     out: &str,
     buffers: Option<u16>,
 ) -> Result<u8, u8>
-    ensures upgraded { IfOk result (λ status. Upgrades image.now out.now buffers status (W.failed writer.new)
-        (done (F.log files.old) (W.sent writer.old)) (done (F.log files.new) (W.sent writer.new))) }
-    ensures refused { IfErr result (λ status. RefusesUpgrade image.now out.now buffers status
-        (done (F.log files.old) (W.sent writer.old)) (done (F.log files.new) (W.sent writer.new))) }
+    ensures upgraded { Began F.log W.Output files.old files.new writer.old writer.new result
+        (Upgrades image.now out.now buffers) }
+    ensures refused { NotBegun F.log W.Output files.old files.new writer.old writer.new result
+        (RefusesUpgrade image.now out.now buffers) }
     ensures cut { W.failed writer.old ≡ false → W.failed writer.new ≡ true → status_of result ≡ 5 }
     ensures passed { IsPassedOn (status_of result) (W.failed writer.new) (W.passed writer.new) (W.sent writer.old) (W.sent writer.new) }
 {

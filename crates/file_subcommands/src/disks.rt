@@ -4,12 +4,13 @@ ghost use Rattle.std.specs.Prelude.{◌≡◌, ◌⊎◌, ◌<◌, false, true, 
 ghost use Rattle.containers.specs.Containers.{new_container};
 ghost use Rattle.file_subcommands.specs.Filed.{AreNumbers, Exports, Imports, IsExported, IsWantedLayout, PrintsNoContainer, PrintsUnexported, RefusesExport, RefusesImport, RefusesLayout, RefusesSkew, items_of, numbers_in, wanted_of};
 ghost use Rattle.named_files.specs.Done.{IsPassedOn, done, status_of};
+ghost use Rattle.named_files.specs.Begun.{Began};
 ghost use Rattle.subcommands.specs.Ends.{IsRefusal};
 
 use crate::screens::MOST_BLOCKS;
 use containers::{Cause, Layout, named, new_container};
 use inner_interpreter::Output;
-use named_files::{Files, write_made};
+use named_files::{Files, Guards, write_made};
 use std::alloc::Global;
 use subcommands::{Ended, do_export, do_import, print_out_of_memory, refuse_container};
 
@@ -97,14 +98,14 @@ fn layout_of<F: Files, W: Output>(
 
 /// Writes the new file of blocks that `import` names; one that exists is left alone. `cleans`: what is read is made text. If it
 /// cannot begin, that is printed, and the status is the error.
-pub fn import_screens<F: Files, W: Output>(
+pub fn import_screens<F: Guards, W: Output>(
     files: &mut F,
     writer: &mut W,
     disk: Disk<'_>,
     cleans: bool,
 ) -> Result<u8, u8>
-    ensures imported { IfOk result (λ status. Imports (wanted_of disk.entry) cleans status (W.failed writer.new)
-        (done (F.log files.old) (W.sent writer.old)) (done (F.log files.new) (W.sent writer.new))) }
+    ensures imported { Began F.log W.Output files.old files.new writer.old writer.new result
+        (Imports (wanted_of disk.entry) cleans) }
     ensures refused { IfErr result (λ status. RefusesImport (wanted_of disk.entry) status (W.failed writer.new)
         (done (F.log files.old) (W.sent writer.old)) (done (F.log files.new) (W.sent writer.new))) }
     ensures cut { W.failed writer.old ≡ false → W.failed writer.new ≡ true → status_of result ≡ 5 }
@@ -181,13 +182,13 @@ fn exported<W: Output>(
 
 /// Writes the container that `export` names: the old one with the screens of the blocks, or a new one. If it cannot begin, that is
 /// printed, and the status is the error.
-pub fn export_screens<F: Files, W: Output>(
+pub fn export_screens<F: Guards, W: Output>(
     files: &mut F,
     writer: &mut W,
     disk: Disk<'_>,
 ) -> Result<u8, u8>
-    ensures exported { IfOk result (λ status. Exports (wanted_of disk.entry) status (W.failed writer.new)
-        (done (F.log files.old) (W.sent writer.old)) (done (F.log files.new) (W.sent writer.new))) }
+    ensures exported { Began F.log W.Output files.old files.new writer.old writer.new result
+        (Exports (wanted_of disk.entry)) }
     ensures refused { IfErr result (λ status. RefusesExport (wanted_of disk.entry) status (W.failed writer.new)
         (done (F.log files.old) (W.sent writer.old)) (done (F.log files.new) (W.sent writer.new))) }
     ensures cut { W.failed writer.old ≡ false → W.failed writer.new ≡ true → status_of result ≡ 5 }

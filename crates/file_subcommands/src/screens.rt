@@ -1,11 +1,12 @@
 //! `kernel`, `text`, `screens`, `headings` and `new`.
 
-ghost use Rattle.std.specs.Prelude.{◌≡◌, true, false, IfErr, IfOk};
+ghost use Rattle.std.specs.Prelude.{◌≡◌, true, false};
 ghost use Rattle.file_subcommands.specs.Filed.{ListsHeadings, MakesKernel, MakesNew, MakesScreens, Prints, RefusesNew, headings_steps, kernel_steps, screens_steps, text_steps};
-ghost use Rattle.named_files.specs.Done.{IsPassedOn, Refuses, done, status_of};
+ghost use Rattle.named_files.specs.Done.{IsPassedOn, Refuses, status_of};
+ghost use Rattle.named_files.specs.Begun.{Began, NotBegun};
 
 use inner_interpreter::Output;
-use named_files::{Files, write_made};
+use named_files::{Ends, Files, Guards, write_made};
 use subcommands::{Ended, do_headings, do_kernel, do_new, do_screens, do_text};
 
 /// How many blocks a file has at most.
@@ -20,15 +21,15 @@ pub struct Screens<'a> {
 }
 
 /// Writes the new file that `kernel` names. If it cannot begin, that is printed, and the status is the error.
-pub fn write_kernel<F: Files, W: Output>(
+pub fn write_kernel<F: Guards, W: Output>(
     files: &mut F,
     writer: &mut W,
     blocks: &str,
 ) -> Result<u8, u8>
-    ensures made { IfOk result (λ status. MakesKernel blocks.now status (W.failed writer.new)
-        (done (F.log files.old) (W.sent writer.old)) (done (F.log files.new) (W.sent writer.new))) }
-    ensures refused { IfErr result (λ status. Refuses (kernel_steps blocks.now) status
-        (done (F.log files.old) (W.sent writer.old)) (done (F.log files.new) (W.sent writer.new))) }
+    ensures made { Began F.log W.Output files.old files.new writer.old writer.new result
+        (MakesKernel blocks.now) }
+    ensures refused { NotBegun F.log W.Output files.old files.new writer.old writer.new result
+        (Refuses (kernel_steps blocks.now)) }
     ensures cut { W.failed writer.old ≡ false → W.failed writer.new ≡ true → status_of result ≡ 5 }
     ensures passed { IsPassedOn (status_of result) (W.failed writer.new) (W.passed writer.new) (W.sent writer.old) (W.sent writer.new) }
 {
@@ -38,15 +39,15 @@ pub fn write_kernel<F: Files, W: Output>(
 }
 
 /// Prints the screens that `text` names. If it cannot begin, that is printed, and the status is the error.
-pub fn print_text<F: Files, W: Output>(
+pub fn print_text<F: Ends, W: Output>(
     files: &mut F,
     writer: &mut W,
     screens: Screens<'_>,
 ) -> Result<u8, u8>
-    ensures printed { IfOk result (λ status. Prints screens.entry.blocks.now screens.entry.from screens.entry.to status (W.failed writer.new)
-        (done (F.log files.old) (W.sent writer.old)) (done (F.log files.new) (W.sent writer.new))) }
-    ensures refused { IfErr result (λ status. Refuses (text_steps screens.entry.blocks.now) status
-        (done (F.log files.old) (W.sent writer.old)) (done (F.log files.new) (W.sent writer.new))) }
+    ensures printed { Began F.log W.Output files.old files.new writer.old writer.new result
+        (Prints screens.entry.blocks.now screens.entry.from screens.entry.to) }
+    ensures refused { NotBegun F.log W.Output files.old files.new writer.old writer.new result
+        (Refuses (text_steps screens.entry.blocks.now)) }
     ensures cut { W.failed writer.old ≡ false → W.failed writer.new ≡ true → status_of result ≡ 5 }
     ensures passed { IsPassedOn (status_of result) (W.failed writer.new) (W.passed writer.new) (W.sent writer.old) (W.sent writer.new) }
 {
@@ -60,16 +61,16 @@ pub fn print_text<F: Files, W: Output>(
 
 /// Writes the screens of the text that `screens` names. A text isn't written over by its screens. If it cannot begin, that is
 /// printed, and the status is the error.
-pub fn write_screens<F: Files, W: Output>(
+pub fn write_screens<F: Guards, W: Output>(
     files: &mut F,
     writer: &mut W,
     text: &str,
     blocks: &str,
 ) -> Result<u8, u8>
-    ensures made { IfOk result (λ status. MakesScreens text.now blocks.now status (W.failed writer.new)
-        (done (F.log files.old) (W.sent writer.old)) (done (F.log files.new) (W.sent writer.new))) }
-    ensures refused { IfErr result (λ status. Refuses (screens_steps text.now blocks.now) status
-        (done (F.log files.old) (W.sent writer.old)) (done (F.log files.new) (W.sent writer.new))) }
+    ensures made { Began F.log W.Output files.old files.new writer.old writer.new result
+        (MakesScreens text.now blocks.now) }
+    ensures refused { NotBegun F.log W.Output files.old files.new writer.old writer.new result
+        (Refuses (screens_steps text.now blocks.now)) }
     ensures cut { W.failed writer.old ≡ false → W.failed writer.new ≡ true → status_of result ≡ 5 }
     ensures passed { IsPassedOn (status_of result) (W.failed writer.new) (W.passed writer.new) (W.sent writer.old) (W.sent writer.new) }
 {
@@ -88,10 +89,10 @@ pub fn print_headings<F: Files, W: Output>(
     writer: &mut W,
     text: &str,
 ) -> Result<u8, u8>
-    ensures listed { IfOk result (λ status. ListsHeadings text.now status (W.failed writer.new)
-        (done (F.log files.old) (W.sent writer.old)) (done (F.log files.new) (W.sent writer.new))) }
-    ensures refused { IfErr result (λ status. Refuses (headings_steps text.now) status
-        (done (F.log files.old) (W.sent writer.old)) (done (F.log files.new) (W.sent writer.new))) }
+    ensures listed { Began F.log W.Output files.old files.new writer.old writer.new result
+        (ListsHeadings text.now) }
+    ensures refused { NotBegun F.log W.Output files.old files.new writer.old writer.new result
+        (Refuses (headings_steps text.now)) }
     ensures cut { W.failed writer.old ≡ false → W.failed writer.new ≡ true → status_of result ≡ 5 }
     ensures passed { IsPassedOn (status_of result) (W.failed writer.new) (W.passed writer.new) (W.sent writer.old) (W.sent writer.new) }
 {
@@ -101,16 +102,16 @@ pub fn print_headings<F: Files, W: Output>(
 
 /// Writes the new file that `new` names; one that exists is left alone. If it cannot begin, that is printed, and the status is the
 /// error.
-pub fn write_new<F: Files, W: Output>(
+pub fn write_new<F: Guards, W: Output>(
     files: &mut F,
     writer: &mut W,
     blocks: &str,
     count: u32,
 ) -> Result<u8, u8>
-    ensures made { IfOk result (λ status. MakesNew blocks.now count status (W.failed writer.new)
-        (done (F.log files.old) (W.sent writer.old)) (done (F.log files.new) (W.sent writer.new))) }
-    ensures refused { IfErr result (λ status. RefusesNew blocks.now count status
-        (done (F.log files.old) (W.sent writer.old)) (done (F.log files.new) (W.sent writer.new))) }
+    ensures made { Began F.log W.Output files.old files.new writer.old writer.new result
+        (MakesNew blocks.now count) }
+    ensures refused { NotBegun F.log W.Output files.old files.new writer.old writer.new result
+        (RefusesNew blocks.now count) }
     ensures cut { W.failed writer.old ≡ false → W.failed writer.new ≡ true → status_of result ≡ 5 }
     ensures passed { IsPassedOn (status_of result) (W.failed writer.new) (W.passed writer.new) (W.sent writer.old) (W.sent writer.new) }
 {

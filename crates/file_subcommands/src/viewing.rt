@@ -1,8 +1,9 @@
 //! `see` and `view`.
 
-ghost use Rattle.std.specs.Prelude.{◌≡◌, true, false, IfErr, IfOk};
+ghost use Rattle.std.specs.Prelude.{◌≡◌, true, false};
 ghost use Rattle.file_subcommands.specs.Filed.{Sees, Views, image_steps};
-ghost use Rattle.named_files.specs.Done.{IsPassedOn, Refuses, done, status_of};
+ghost use Rattle.named_files.specs.Done.{IsPassedOn, Refuses, status_of};
+ghost use Rattle.named_files.specs.Begun.{Began, NotBegun};
 
 use inner_interpreter::Output;
 use named_files::Files;
@@ -15,10 +16,10 @@ pub fn view_word<F: Files, W: Output>(
     image: &str,
     name: &str,
 ) -> Result<u8, u8>
-    ensures viewed { IfOk result (λ status. Views image.now name.now status (W.failed writer.new)
-        (done (F.log files.old) (W.sent writer.old)) (done (F.log files.new) (W.sent writer.new))) }
-    ensures refused { IfErr result (λ status. Refuses (image_steps image.now) status
-        (done (F.log files.old) (W.sent writer.old)) (done (F.log files.new) (W.sent writer.new))) }
+    ensures viewed { Began F.log W.Output files.old files.new writer.old writer.new result
+        (Views image.now name.now) }
+    ensures refused { NotBegun F.log W.Output files.old files.new writer.old writer.new result
+        (Refuses (image_steps image.now)) }
     ensures cut { W.failed writer.old ≡ false → W.failed writer.new ≡ true → status_of result ≡ 5 }
     ensures passed { IsPassedOn (status_of result) (W.failed writer.new) (W.passed writer.new) (W.sent writer.old) (W.sent writer.new) }
 {
@@ -33,10 +34,10 @@ pub fn see_word<F: Files, W: Output>(
     image: &str,
     name: &str,
 ) -> Result<u8, u8>
-    ensures seen { IfOk result (λ status. Sees image.now name.now status (W.failed writer.new)
-        (done (F.log files.old) (W.sent writer.old)) (done (F.log files.new) (W.sent writer.new))) }
-    ensures refused { IfErr result (λ status. Refuses (image_steps image.now) status
-        (done (F.log files.old) (W.sent writer.old)) (done (F.log files.new) (W.sent writer.new))) }
+    ensures seen { Began F.log W.Output files.old files.new writer.old writer.new result
+        (Sees image.now name.now) }
+    ensures refused { NotBegun F.log W.Output files.old files.new writer.old writer.new result
+        (Refuses (image_steps image.now)) }
     ensures cut { W.failed writer.old ≡ false → W.failed writer.new ≡ true → status_of result ≡ 5 }
     ensures passed { IsPassedOn (status_of result) (W.failed writer.new) (W.passed writer.new) (W.sent writer.old) (W.sent writer.new) }
 {

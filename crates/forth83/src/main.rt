@@ -1,9 +1,10 @@
 //! A Forth-83 system with block storage.
 #![tactic(auto)]
 
-ghost use Rattle.std.specs.Prelude.{◌≡◌, false, true, map, IfErr, IfOk, option_map};
+ghost use Rattle.std.specs.Prelude.{◌≡◌, false, true, map, IfErr, option_map};
 ghost use Rattle.forth83.specs.Obeyed.{Obeys, RefusesWords, RunsLine};
 ghost use Rattle.named_files.specs.Done.{IsPassedOn, done, status_of};
+ghost use Rattle.named_files.specs.Begun.{Began};
 ghost use Rattle.std.specs.String.{string_bytes};
 
 use advice_subcommand::advise_case;
@@ -19,7 +20,7 @@ use file_subcommands::{
 use inner_interpreter::Output;
 use judge_subcommand::{Judged, judge_pupil};
 use load_subcommand::{Load, load_screens};
-use named_files::{Files, SystemFiles, out_of_memory, standard_output};
+use named_files::{Ends, Places, SystemFiles, out_of_memory, standard_output};
 use old_disk_subcommands::{Guess, OldDisk, Unpacking, guess_order, pack_disk, unpack_disk};
 use run_subcommand::run_image;
 use serve_subcommand::serve_image;
@@ -128,9 +129,9 @@ fn old_disk_of(words: &DiskWords) -> OldDisk<'_>
 
 /// What the words of `unpack` name.
 fn unpacking_of(words: &UnpackWords) -> Unpacking<'_>
-    ensures files { (result.disk.container.now ≡ string_bytes words.now.disk.container.container)
-        × (result.disk.blocks.now ≡ string_bytes words.now.disk.container.blocks)
-        × (result.disk.format.now ≡ string_bytes words.now.disk.container.format) }
+    ensures container { result.disk.container.now ≡ string_bytes words.now.disk.container.container }
+    ensures blocks { result.disk.blocks.now ≡ string_bytes words.now.disk.container.blocks }
+    ensures format { result.disk.format.now ≡ string_bytes words.now.disk.container.format }
     ensures records { (result.width ≡ words.now.width) × (result.lines ≡ words.now.lines) × (result.columns ≡ words.now.columns) }
     ensures flags { (result.cleans ≡ words.now.disk.container.cleans) × (result.appends ≡ words.now.appends) }
     ensures file { option_map (λ text. text.now) result.file ≡ option_map string_bytes words.now.file }
@@ -161,9 +162,9 @@ fn guess_of(words: &GuessWords) -> Guess<'_>
 }
 
 /// Runs what the words say, and answers the status. If a subcommand cannot start, the reason is printed, and the status is the error.
-fn obey<F: Files, W: Output>(files: &mut F, writer: &mut W, words: Words) -> Result<u8, u8>
-    ensures obeyed { W.failed writer.old ≡ false → IfOk result (λ status. Obeys words status (W.failed writer.new)
-        (done (F.log files.old) (W.sent writer.old)) (done (F.log files.new) (W.sent writer.new))) }
+fn obey<F: Ends + Places, W: Output>(files: &mut F, writer: &mut W, words: Words) -> Result<u8, u8>
+    ensures obeyed { W.failed writer.old ≡ false → Began F.log W.Output files.old files.new writer.old writer.new result
+        (Obeys words) }
     ensures refused { IfErr result (λ status. RefusesWords words status (W.failed writer.new)
         (done (F.log files.old) (W.sent writer.old)) (done (F.log files.new) (W.sent writer.new))) }
     ensures cut { W.failed writer.old ≡ false → W.failed writer.new ≡ true → status_of result ≡ 5 }
@@ -231,7 +232,7 @@ fn obey<F: Files, W: Output>(files: &mut F, writer: &mut W, words: Words) -> Res
 }
 
 /// Runs a command line, of which the first word is the program's name, and answers the status. If no words come of it, that is printed.
-fn run_line<R: Print, F: Files, W: Output>(
+fn run_line<R: Print, F: Ends + Places, W: Output>(
     rt: &R,
     files: &mut F,
     writer: &mut W,

@@ -81,7 +81,7 @@ stretch_counted (suc n) k w s f e h =
     (λ runs. stretch_counted n (k + 1) (behind w 1 (ticked s).0 (ticked s).1) (ticked s).0.parts f runs (omega (arith, h)))
     (is_quiet (ticked s).1) refl
 
--- there is no mark where no called word has returned
+-- there is no mark if no called word has returned
 pub unmarked : (w : World) → is_returned w.state ≡ false → traced_line at_0 mark w ≡ []
 unfolding traced_line is_met is_returned
 unmarked w e = grind arith

@@ -1,5 +1,5 @@
 -- How far a call drives a machine: rounds of a run, up to where its host is needed.
-use Rattle.std.specs.Prelude.{◌≡◌, ℕ, zero, suc, ◌+◌, ◌<◌, ◌≤◌, ◌==◌, nat_le, Bool, true, false, is_none, ◌&&◌, List, [], ◌∷◌, ◌++◌, length, take, drop, Option, None, Some, IsSome, if◌then◌else◌}
+use Rattle.std.specs.Prelude.{◌≡◌, ℕ, zero, suc, ◌+◌, ◌-◌, ◌<◌, ◌≤◌, ◌==◌, nat_le, Bool, true, false, is_none, ◌&&◌, List, [], ◌∷◌, ◌++◌, length, take, drop, Option, None, Some, IsSome, if◌then◌else◌}
 use Rattle.std.specs.List.{list_all}
 use Rattle.block_buffers.specs.Disks.{Disk}
 use Rattle.cells.specs.Cell.{wrap}
@@ -114,3 +114,20 @@ abbrev pub StepsOn : (calling : Bool) → (typed : List ℕ) → State → Cours
 StepsOn calling typed s course room s' course' room' stop =
     DrivesOn calling course.faults s (drop course.read typed) (take course.shown room) course.left
     course'.faults s' (drop course'.read typed) (told_by stop s'.parts.memory (take course'.shown room')) course'.left
+
+-- the same of a step that reads none of the typed bytes, whatever these are
+abbrev pub GoesOn : (calling : Bool) → State → Course → (room : List ℕ) → State → Course → (room' : List ℕ) → Option Stop → Type 0
+GoesOn calling s course room s' course' room' stop =
+    (unread : List ℕ) → DrivesOn calling course.faults s unread (take course.shown room) course.left
+    course'.faults s' unread (told_by stop s'.parts.memory (take course'.shown room')) course'.left
+
+-- a call of so many ticks came so far: what it has read, shown and left, its faults, and why it ended there
+abbrev pub HasDriven : (calling : Bool) → Forth83Faults → State → (typed : List ℕ) → (limit : ℕ) → State → Course → (room : List ℕ) → Stop → Type 0
+HasDriven calling before old typed limit new course room stop =
+    IsDriven calling before old typed limit course.faults new (drop course.read typed)
+    (told stop new.parts.memory (take course.shown room)) course.left
+
+-- it ended there by these
+abbrev pub EndsAt : (calling : Bool) → Stop → State → (typed : List ℕ) → Course → (room : List ℕ) → Type 0
+EndsAt calling stop s typed course room =
+    HasStopped calling stop s (drop course.read typed) course.left (length room) (length room - course.shown)

@@ -1,6 +1,6 @@
 //! Driving a machine up to where its host is needed.
 
-ghost use Rattle.std.specs.Prelude.{◌≡◌, ◌≤◌, ◌<◌, ◌+◌, ◌-◌, ℕ, List, length, take, drop, Some, None, true, false, IfSome, IsNone, if◌then◌else◌};
+ghost use Rattle.std.specs.Prelude.{◌≡◌, ◌≤◌, ◌<◌, ◌+◌, ◌-◌, ℕ, List, length, drop, Some, None, true, false, IfSome, IsNone};
 ghost use Rattle.std.specs.List.{list_all};
 ghost use Rattle.cells.specs.Cell.{wrap};
 ghost use Rattle.machine_parts.specs.declared.parts.Request.TheVariants as request;
@@ -10,7 +10,7 @@ ghost use Rattle.machine.specs.Met.{AreUnmet};
 ghost use Rattle.machine.specs.Onward.{ran_from};
 ghost use Rattle.machine.specs.Tick.{Runs, ran, ticked};
 ghost use Rattle.inner_interpreter.specs.Worlds.{rounds_left};
-ghost use Rattle.forth83_c.specs.Driven.{IsDriven, DrivesOn, StepsOn, HasStopped, at_0, counted, is_returned, least_room, told, told_by};
+ghost use Rattle.forth83_c.specs.Driven.{EndsAt, GoesOn, HasDriven, HasStopped, StepsOn, at_0, counted, is_returned, least_room};
 
 use crate::lines::whole_line;
 use crate::record::Forth83Faults;
@@ -104,8 +104,7 @@ fn tick_on(
     requires some { 0 < course.old.left }
     requires inside { course.old.shown ≤ length out.old }
     requires room { least_room (length out.old) ≤ length out.old - course.old.shown }
-    ensures on { (unread : List ℕ) → DrivesOn calling course.old.faults machine.old unread (take course.old.shown out.old)
-        course.old.left course.new.faults machine.new unread (told_by result machine.new.parts.memory (take course.new.shown out.new)) course.new.left }
+    ensures on { GoesOn calling machine.old course.old out.old machine.new course.new out.new result }
     ensures stopped { (unread : List ℕ) → IfSome result (λ stop. HasStopped calling stop machine.new unread course.new.left
         (length out.new) (length out.new - course.new.shown)) }
     ensures read { course.new.read ≡ course.old.read }
@@ -283,10 +282,8 @@ pub fn drive(
     calling: bool,
     faults: Forth83Faults,
 ) -> (Course, Stop)
-    ensures driven { IsDriven calling faults machine.old typed.now limit result.0.faults machine.new (drop result.0.read typed.now)
-        (told result.1 machine.new.parts.memory (take result.0.shown out.new)) result.0.left }
-    ensures stopped { HasStopped calling result.1 machine.new (drop result.0.read typed.now) result.0.left
-        (length out.new) (length out.new - result.0.shown) }
+    ensures driven { HasDriven calling faults machine.old typed.now limit machine.new result.0 out.new result.1 }
+    ensures stopped { EndsAt calling result.1 machine.new typed.now result.0 out.new }
     ensures left { result.0.left ≤ limit }
     ensures read { result.0.read ≤ length typed.now }
     ensures beyond { drop result.0.shown out.new ≡ drop result.0.shown out.old }

@@ -1,10 +1,10 @@
 //! Machines over memory that a record lends: they work in it as it lies there, and it comes back.
 
-ghost use Rattle.std.specs.Prelude.{◌≡◌, ◌≤◌, ◌-◌, ℕ, List, length, take, drop, None, true, IfSome, IsSome};
+ghost use Rattle.std.specs.Prelude.{◌≡◌, ◌≤◌, ◌-◌, ℕ, List, length, drop, None, true, IfSome, IsSome};
 ghost use Rattle.memory.specs.Mirrored.{stored};
 ghost use Rattle.machine.specs.Answer.{answer_of, asked_by, is_answer, seen};
 ghost use Rattle.name_index.specs.Index.{Holds};
-ghost use Rattle.forth83_c.specs.Driven.{HasStopped, IsDriven, told};
+ghost use Rattle.forth83_c.specs.Driven.{EndsAt, HasDriven};
 ghost use Rattle.serving.specs.Requests.{wish_of};
 ghost use Rattle.serving.specs.Room.{may_move, move_room};
 ghost use Rattle.machine.specs.Registers.{state_of};
@@ -44,12 +44,10 @@ pub fn drive_lent<'m>(
 ) -> Driven<'m>
     requires { (limit : ℕ) (m : List ℕ) → Holds limit index m }
     ensures same { result.memory.ghost_name ≡ memory.entry.ghost_name }
-    ensures driven { IfSome left.new (λ own. IsDriven calling faults (state_of (stored memory.entry.now) rest) typed.now limit
-        result.course.faults (state_of (stored result.memory.now) own) (drop result.course.read typed.now)
-        (told result.stop (stored result.memory.now) (take result.course.shown shown.new)) result.course.left) }
-    ensures stopped { IfSome left.new (λ own. HasStopped calling result.stop (state_of (stored result.memory.now) own)
-        (drop result.course.read typed.now) result.course.left (length shown.new)
-        (length shown.new - result.course.shown)) }
+    ensures driven { IfSome left.new (λ own. HasDriven calling faults (state_of (stored memory.entry.now) rest) typed.now limit
+        (state_of (stored result.memory.now) own) result.course shown.new result.stop) }
+    ensures stopped { IfSome left.new (λ own. EndsAt calling result.stop
+        (state_of (stored result.memory.now) own) typed.now result.course shown.new) }
     ensures whole { IsSome left.new }
     ensures left { result.course.left ≤ limit }
     ensures read { result.course.read ≤ length typed.now }

@@ -42,7 +42,7 @@ record_below (Then t ws i) v (inl e) =
     (omega (arith, length-bytes (λ a c. 0) t false), omega arith)
 record_below (Then t ws i) v (inr r) = let b = record_below t v r in (omega arith, omega arith)
 
--- bytes where the heads are the same
+-- bytes if the heads are the same
 own_same : (h g : ℕ → ℕ → ℕ) (t : Items) (i : Item) (imm : Bool) → ((v : ℕ) → OwnRecord t i v → (c : ℕ) → h v c ≡ g v c) → own h t i imm ≡ own g t i imm
 own_same h g t i imm e = grind arith
 

@@ -6,7 +6,7 @@ use Rattle.block_buffers.specs.Likeness.{DidAs}
 use Rattle.block_buffers.specs.ReadPages.{AreReadFrom, reads_of}
 use Rattle.block_buffers.proofs.Likeness.{DidBoth, both_of, none_made}
 use Rattle.source_words.specs.declared.modes.Mode.{Mode}
-use Rattle.image_builder.specs.Reading.{Asks, Stopped, TookAll, Why, refusal, settled, Holds, IsHeld, IsFaultOf, TakesScreen, Underway, TakesAll, HasRead, HasFailed, Midway}
+use Rattle.image_builder.specs.ReadScreens.{Asks, Stopped, TookAll, Why, refusal, settled, Holds, IsHeld, IsFaultOf, TakesScreen, Underway, TakesAll, HasRead, HasFailed, Midway}
 use Rattle.std.proofs.lemmas.List.{take-take, take-append-drop, take_more, get_or-drop, drop-drop, length-take-le}
 use Rattle.std.specs.Prelude.{Result, true, false, not, ◌&&◌, OnOk, Option}
 use Rattle.memory.specs.Bytes.{limit_of}

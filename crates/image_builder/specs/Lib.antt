@@ -11,4 +11,4 @@ pub mod Headers
 pub mod Causes
 pub mod State
 pub mod Sources
-pub mod Reading
+pub mod ReadScreens

@@ -5,6 +5,7 @@ use Rattle.block_buffers.specs.DeviceCalls.{DeviceCall}
 use Rattle.block_buffers.specs.Disks.{Disk, called, succeeds}
 use Rattle.block_buffers.specs.Likeness.{DidAs}
 use Rattle.block_buffers.specs.ReadPages.{AreReadFrom}
+use Rattle.block_buffers.specs.declared.devices.Device as device
 use Rattle.image_loader.specs.Files.{Contents}
 use Rattle.memory.specs.Bytes.{limit_of}
 use Rattle.source_words.specs.Words.{SourceWord, source_words}
@@ -50,6 +51,10 @@ done_of disk calls calls' = record { disk = disk; before = failures calls; after
 -- of each disk as which a device did in its calls, something holds: of the disk before, and of what was done
 abbrev pub ForDisks : (count : ℕ) → (calls calls' : List DeviceCall) → (Disk → Done → Type 0) → Type 0
 ForDisks count calls calls' holds = (d e : Disk) → DidAs d e count calls calls' → holds d (done_of (Some e) calls calls')
+
+-- the same of a device, before its calls and after them
+abbrev pub ForDevice : {D : Type 0} → device.Ghosts D → (old new : D) → (Disk → Done → Type 0) → Type 0
+ForDevice ds old new holds = ForDisks (ds.block_count old) (ds.calls old) (ds.calls new) holds
 
 -- nothing is wrong with these words, whatever comes after them
 pub record IsFaultless (limit : ℕ) (source : List SourceWord) : Type 0 where

@@ -1,11 +1,12 @@
 -- How far a source was read, and what one more word does.
 use Rattle.std.specs.Prelude.{Bool, true, false, ◌≡◌, ℕ, ◌+◌, ◌<◌, ◌≤◌, ◌⊎◌, List, [], ◌∷◌, ◌++◌, Option, Some, None, Result, Ok, Err}
-use Rattle.colon_bodies.specs.Draft.{IsBlank, Progress, token, Goes as BodyGoes}
+use Rattle.colon_bodies.specs.Draft.{IsBlank, Progress, token, Drafts as BodyDrafts, Goes as BodyGoes}
+use Rattle.colon_bodies.specs.declared.draft.Draft.{Draft}
 use Rattle.colon_bodies.specs.declared.words.Half.{Half}
 use Rattle.colon_bodies.specs.Faults.{body_cause}
 use Rattle.colon_bodies.specs.Rules.{AreKnown}
 use Rattle.colon_bodies.specs.Tokens.{AreShort, Token, SEMI}
-use Rattle.colon_bodies.specs.Open.{Outer, open_words}
+use Rattle.colon_bodies.specs.Open.{Outer, open_depth, open_words}
 use Rattle.colon_bodies.specs.declared.fault.BodyCause.{BodyCause}
 use Rattle.image_builder.specs.Causes.{cause_of}
 use Rattle.colon_bodies.specs.Tree.{Body, Definition, all_words, all_nesting}
@@ -99,6 +100,11 @@ InBody b title t ws before p holds = IsTitle title.screen title.name.items p →
 abbrev pub TakenSo : ℕ → (ℕ → ℕ) → ℕ → Outer → Body → Half → Token → Result (Unit {0}) Cause → Build → Type 0
 TakenSo limit rt at o t h w (Ok u) b = BodyGoes rt at limit o t h w b.draft
 TakenSo limit rt at o t h w (Err e) b = (e ≡ c.OutOfMemory) ⊎ ((d : BodyCause) × (e ≡ cause_of d) × (body_cause rt at limit (open_words o t h) w ≡ Some d))
+
+-- so of a draft, whatever words are in it
+abbrev pub DraftsWord : ℕ → (ℕ → ℕ) → ℕ → Token → Draft → Result (Unit {0}) Cause → Build → Type 0
+DraftsWord limit rt at w draft result b =
+    (o : Outer) (t : Body) (h : Half) → BodyDrafts rt at o t h draft → open_depth o t ≤ 64 → TakenSo limit rt at o t h w result b
 
 pub record IsSame (old new : Build) : Type 0 where
   pub limit : new.limit ≡ old.limit

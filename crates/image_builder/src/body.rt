@@ -1,11 +1,9 @@
 //! A word of a body.
 
 ghost use Rattle.std.specs.Prelude.{◌≡◌, ◌≢◌, ◌+◌, ◌<◌, ◌≤◌, List, length, Result, Ok, Err, slice_index};
-ghost use Rattle.colon_bodies.specs.Tree.{Body};
 ghost use Rattle.colon_bodies.specs.Tokens.{Token, SEMI};
 ghost use Rattle.colon_bodies.specs.declared.words.Half.{Half};
-ghost use Rattle.colon_bodies.specs.Open.{Outer, open_depth};
-ghost use Rattle.colon_bodies.specs.Draft.{token, Drafting, Drafts};
+ghost use Rattle.colon_bodies.specs.Draft.{token, Drafting};
 ghost use Rattle.memory.specs.declared.limit.TheConstants.{GREATEST_LIMIT};
 ghost use Rattle.image_builder.specs.Names.{entry};
 ghost use Rattle.image_builder.specs.Places.{Place, place, sense};
@@ -13,7 +11,7 @@ ghost use Rattle.image_builder.specs.Items.{Items};
 ghost use Rattle.image_builder.specs.Stages.{Inside, body_at};
 ghost use Rattle.image_builder.specs.Meanings.{look, meaning, name_first, unnamed, is_name_barred, is_inner};
 ghost use Rattle.image_builder.specs.Built.{Built, Building};
-ghost use Rattle.image_builder.specs.State.{InBody, Taken, Means, Looks, Somewhere, TakenSo, EndsSo, IsSame};
+ghost use Rattle.image_builder.specs.State.{InBody, Taken, Means, Looks, Somewhere, DraftsWord, EndsSo, IsSame};
 
 use crate::cause::Cause;
 use crate::entry::{Entry, Sign, find_name};
@@ -110,9 +108,7 @@ fn draft_word(b: &mut Build, word: BodyWord, at: u16) -> Result<(), Cause>
     requires limit { b.old.limit ≤ GREATEST_LIMIT }
     requires controls { length b.old.runtime.items ≡ 256 }
     requires inside { token word ≢ SEMI }
-    ensures taken { (o : Outer) (t : Body) (h : Half) → Drafts (slice_index b.old.runtime.items) at o t h b.old.draft →
-        open_depth o t ≤ 64 → TakenSo b.old.limit (slice_index b.old.runtime.items) at o t h
-        (token word.entry) result b.new }
+    ensures taken { DraftsWord b.old.limit (slice_index b.old.runtime.items) at (token word.entry) b.old.draft result b.new }
     ensures kept { IsSame b.old b.new }
 {
     take_word(&mut b.draft, word, at, b.limit, b.runtime.as_slice())?;
@@ -134,7 +130,7 @@ fn end_body(b: &mut Build, p: &Title, at: u16) -> Result<(), Cause>
 }
 
 /// A word of a body.
-pub fn take_body(b: &mut Build, p: Title, w: Spot) -> Result<Begun, Cause>
+pub fn compile_word(b: &mut Build, p: Title, w: Spot) -> Result<Begun, Cause>
     requires somewhere { Somewhere b.old p }
     requires short { length p.name.items < 32 }
     ensures { (t : Items) (ws after : List Place) (before : List Token) (q : Place) → InBody b.old p t ws before q

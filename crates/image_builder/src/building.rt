@@ -9,13 +9,13 @@ ghost use Rattle.image_builder.specs.Faults.{IsFault};
 ghost use Rattle.image_builder.specs.Grammar.{IsLimit};
 ghost use Rattle.image_builder.specs.Built.{Building};
 ghost use Rattle.image_builder.specs.State.{IsRead, IsBuilt, tells_whole};
-ghost use Rattle.image_builder.specs.Sources.{ForDisks, IsBuiltOf, IsBuiltOfRead, IsRefused};
-ghost use Rattle.image_builder.specs.Reading.{Holds};
+ghost use Rattle.image_builder.specs.Sources.{ForDevice, IsBuiltOf, IsBuiltOfRead, IsRefused};
+ghost use Rattle.image_builder.specs.ReadScreens.{Holds};
 ghost use Rattle.image_builder.specs.declared.cause.Cause.TheVariants as c;
 
 use crate::cause::{BuildFault, Cause};
 use crate::image::{start, whole_image};
-use crate::reading::{Compilation, Stop, take_screens};
+use crate::reading::{Compilation, Stop, read_screens};
 use crate::state::{Begun, Build};
 use block_buffers::{BLOCK_SIZE, Device};
 use image_loader::Image;
@@ -97,9 +97,9 @@ pub fn build<D: Device>(
         IsBuiltOfRead count (D.block_count device.old) from to i (D.calls device.old) (D.calls device.new)) }
 
     // For each disk as which the device did, the image, or the refusal, is that of this disk's screens.
-    ensures built { ForDisks (D.block_count device.old) (D.calls device.old) (D.calls device.new) (λ d done.
+    ensures built { ForDevice D.Device device.old device.new (λ d done.
         IfOk result (λ i. IsBuiltOf count d from to i done)) }
-    ensures refused { ForDisks (D.block_count device.old) (D.calls device.old) (D.calls device.new) (λ d done.
+    ensures refused { ForDevice D.Device device.old device.new (λ d done.
         IfErr result (λ f. IsRefused (limit_of count) d from to f done)) }
 
     // A device that reports its disk did as that disk.
@@ -117,7 +117,7 @@ pub fn build<D: Device>(
             });
         }
     };
-    if let Err(stop) = take_screens(&mut compilation, device, from, to) {
+    if let Err(stop) = read_screens(&mut compilation, device, from, to) {
         return Err(stop.refusal(from));
     }
     match end(alloc, &compilation.build, &compilation.begun, to) {

@@ -7,6 +7,7 @@ mod cause;
 mod entry;
 mod header;
 mod image;
+mod items;
 pub mod laws;
 mod make;
 mod name;
@@ -15,7 +16,6 @@ mod source;
 mod spelled;
 mod spot;
 mod state;
-mod take;
 
 pub use building::build;
 pub use cause::{BuildFault, Cause};

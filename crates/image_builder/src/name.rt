@@ -16,12 +16,12 @@ ghost use Rattle.image_builder.specs.declared.entry.Lead.TheVariants.{Makes, Def
 use crate::cause::Cause;
 use crate::entry::{Kind, Lead, find_name};
 use crate::header::owned;
+use crate::items::is_over;
 use crate::make::{
     make_constant, make_create, make_primitive, make_variable, make_vocabulary, set_boot,
 };
 use crate::spot::{Inner, Spot};
 use crate::state::{Begun, Build, Title};
-use crate::take::is_over;
 
 /// Makes the header of an item.
 fn make(b: &mut Build, kind: Kind, p: Spot) -> Result<(), Cause>
@@ -62,7 +62,7 @@ fn is_long(name: &[u8]) -> bool
 }
 
 /// The name of a header that has no body.
-pub fn take_made(b: &mut Build, kind: Kind, w: Spot) -> Result<Begun, Cause>
+pub fn name_header(b: &mut Build, kind: Kind, w: Spot) -> Result<Begun, Cause>
     requires building { Building b.old }
     requires number { IsByte kind }
     ensures { (t : Items) (ws after : List Place) → IsState b.old.limit b.old t ws (Due (Makes kind)) →
@@ -79,7 +79,7 @@ pub fn take_made(b: &mut Build, kind: Kind, w: Spot) -> Result<Begun, Cause>
 }
 
 /// The name of a definition.
-pub fn take_colon(b: &mut Build, w: Spot) -> Result<Begun, Cause>
+pub fn name_definition(b: &mut Build, w: Spot) -> Result<Begun, Cause>
     requires building { Building b.old }
     ensures { (t : Items) (ws after : List Place) → IsState b.old.limit b.old t ws (Due Defines) →
         Taken b.old.limit t ws (Due Defines) (place w.entry) after result b.new }
@@ -111,7 +111,7 @@ fn address_of_name(b: &Build, w: Spot) -> Option<u16>
 }
 
 /// The name to begin with.
-pub fn take_boot(b: &mut Build, w: Spot) -> Result<Begun, Cause>
+pub fn name_boot(b: &mut Build, w: Spot) -> Result<Begun, Cause>
     requires building { Building b.old }
     ensures { (t : Items) (ws after : List Place) → IsState b.old.limit b.old t ws (Due Starts) →
         Taken b.old.limit t ws (Due Starts) (place w.entry) after result b.new }
@@ -129,15 +129,15 @@ pub fn take_boot(b: &mut Build, w: Spot) -> Result<Begun, Cause>
 }
 
 /// A word that is due as a name.
-pub fn take_name(b: &mut Build, lead: Lead, w: Spot) -> Result<Begun, Cause>
+pub fn name_item(b: &mut Build, lead: Lead, w: Spot) -> Result<Begun, Cause>
     requires building { Building b.old }
     requires number { (k : Kind) → lead ≡ Makes k → IsByte k }
     ensures { (t : Items) (ws after : List Place) → IsState b.old.limit b.old t ws (Due lead) →
         Taken b.old.limit t ws (Due lead) (place w.entry) after result b.new }
 {
     match lead {
-        Lead::Makes(kind) => take_made(b, kind, w),
-        Lead::Defines => take_colon(b, w),
-        Lead::Starts => take_boot(b, w),
+        Lead::Makes(kind) => name_header(b, kind, w),
+        Lead::Defines => name_definition(b, w),
+        Lead::Starts => name_boot(b, w),
     }
 }

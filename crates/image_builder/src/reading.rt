@@ -1,4 +1,4 @@
-//! The screens of a source, read one at a time, and their words taken one by one.
+//! The screens of a source, read one at a time, and their words one by one.
 
 ghost use Rattle.std.specs.Prelude.{◌≡◌, ℕ, ◌+◌, ◌-◌, ◌<◌, [], List, Some, length, OnOk};
 ghost use Rattle.block_buffers.specs.Disks.{Disk};
@@ -6,12 +6,12 @@ ghost use Rattle.block_buffers.specs.Likeness.{IsLike};
 ghost use Rattle.source_words.specs.Words.{SourceWord, screen_words};
 ghost use Rattle.source_words.specs.Scanned.{source_word};
 ghost use Rattle.block_buffers.specs.ReadPages.{AreReadFrom};
-ghost use Rattle.image_builder.specs.Sources.{ForDisks};
-ghost use Rattle.image_builder.specs.Reading.{Asks, Holds, IsHeld, Takes, TakesAll, TakesScreen, TakesScreens, refusal, settled};
+ghost use Rattle.image_builder.specs.Sources.{ForDevice};
+ghost use Rattle.image_builder.specs.ReadScreens.{Asks, Holds, IsHeld, Takes, TakesAll, TakesNextScreen, TakesScreens, refusal, settled};
 ghost use Rattle.image_builder.specs.declared.reading.Stop.TheVariants as stop;
 
 use crate::cause::{BuildFault, Cause};
-use crate::source::take;
+use crate::source::read_word;
 use crate::spelled::spot_of;
 use crate::state::{Begun, Build};
 use block_buffers::{BLOCK_SIZE, Device};
@@ -75,20 +75,20 @@ impl Stop {
 }
 
 impl Compilation {
-    /// Takes one more word.
-    fn take(&mut self, word: Word<'_>) -> Result<(), BuildFault>
+    /// Reads one more word.
+    fn read(&mut self, word: Word<'_>) -> Result<(), BuildFault>
         requires { IsHeld self.old.build.limit self.old }
         ensures { (limit : ℕ) (front : List SourceWord) → Holds limit self.old front →
             Takes limit front (source_word word.entry) result self.new }
     {
         let begun = mem::replace(&mut self.begun, Begun::Whole);
-        self.begun = take(&mut self.build, begun, spot_of(word))?;
+        self.begun = read_word(&mut self.build, begun, spot_of(word))?;
         Ok(())
     }
 }
 
-/// Takes the words of a screen.
-fn take_words(
+/// Reads the words of a screen.
+fn read_words(
     compilation: &mut Compilation,
     text: &[u8],
     screen: u16,
@@ -101,13 +101,13 @@ fn take_words(
 {
     let mut scanner = Scanner::new(text, screen, mode);
     while let Some(word) = scanner.next() {
-        compilation.take(word)?;
+        compilation.read(word)?;
     }
     Ok(scanner.mode())
 }
 
-/// Reads a screen into `page`, and takes its words.
-fn take_screen<D: Device>(
+/// Reads a screen into `page`, and then its words.
+fn read_screen<D: Device>(
     compilation: &mut Compilation,
     device: &mut D,
     page: &mut [u8; BLOCK_SIZE],
@@ -115,9 +115,8 @@ fn take_screen<D: Device>(
     mode: Mode,
 ) -> Result<Mode, Stop>
     requires { IsHeld compilation.old.build.limit compilation.old }
-    ensures taken { ForDisks (D.block_count device.old) (D.calls device.old) (D.calls device.new) (λ d done.
-        (limit : ℕ) (front : List SourceWord) → Holds limit compilation.old front →
-        TakesScreen limit d screen mode front result compilation.old compilation.new done) }
+    ensures taken { ForDevice D.Device device.old device.new (λ d done.
+        TakesNextScreen d screen mode result compilation.old compilation.new done) }
     ensures like { (d : Disk) → D.disk device.old ≡ Some d →
         IsLike d (D.disk device.new) (D.block_count device.old) (D.calls device.old) (D.calls device.new) }
     ensures asked { Asks screen (D.block_count device.old) result (D.calls device.old) (D.calls device.new) }
@@ -131,18 +130,18 @@ fn take_screen<D: Device>(
     if device.read(screen, page).is_err() {
         return Err(Stop::Device(screen));
     }
-    take_words(compilation, page, screen, mode)
+    read_words(compilation, page, screen, mode)
 }
 
-/// Takes the words of the screens from `from` to `to`, of which one at a time is kept.
-pub fn take_screens<D: Device>(
+/// Reads the words of the screens from `from` to `to`, of which one at a time is kept.
+pub fn read_screens<D: Device>(
     compilation: &mut Compilation,
     device: &mut D,
     from: u16,
     to: u16,
 ) -> Result<(), Stop>
     requires { Holds compilation.old.build.limit compilation.old [] }
-    ensures taken { ForDisks (D.block_count device.old) (D.calls device.old) (D.calls device.new) (λ d done.
+    ensures taken { ForDevice D.Device device.old device.new (λ d done.
         TakesScreens compilation.old.build.limit d from to result compilation.new done) }
     ensures like { (d : Disk) → D.disk device.old ≡ Some d →
         IsLike d (D.disk device.new) (D.block_count device.old) (D.calls device.old) (D.calls device.new) }
@@ -154,7 +153,7 @@ pub fn take_screens<D: Device>(
     let mut page = [b' '; BLOCK_SIZE];
     let mut mode = Mode::Outside;
     for screen in from..=to {
-        mode = take_screen(compilation, device, &mut page, screen, mode)?;
+        mode = read_screen(compilation, device, &mut page, screen, mode)?;
     }
     Ok(())
 }

@@ -7,14 +7,13 @@ ghost use Rattle.image_builder.specs.Stages.{Stage, Whole, Counted, Due, Chosen,
 ghost use Rattle.image_builder.specs.Grammar.{may_name, is_gap};
 ghost use Rattle.image_builder.specs.Built.{Built, Building};
 ghost use Rattle.image_builder.specs.State.{IsState, IsBegun, Shows, TakenAt, OfNumber, IsAtSite, located};
-ghost use Rattle.image_builder.specs.declared.spot.Sort.TheVariants as s;
 
-use crate::body::take_body;
+use crate::body::compile_word;
 use crate::cause::{BuildFault, Cause};
-use crate::name::take_name;
+use crate::items::{begin_item, expect_definitions, lay_counted};
+use crate::name::name_item;
 use crate::spot::{Sort, Spot};
 use crate::state::{Begun, Build, Site};
-use crate::take::{take_counted, take_definitions, take_item};
 use memory::controls::Control;
 
 /// One more than the number of the last primitive.
@@ -111,7 +110,7 @@ fn at(w: Spot, taken: Result<Begun, Cause>) -> Result<Begun, BuildFault>
 }
 
 /// A word after a number.
-fn take_number(b: &mut Build, n: u16, a: Site, w: Spot) -> Result<Begun, BuildFault>
+fn read_after_number(b: &mut Build, n: u16, a: Site, w: Spot) -> Result<Begun, BuildFault>
     requires building { Building b.old }
     ensures { (t : Items) (ws after : List Place) → IsState b.old.limit b.old t ws (Counted n) → IsAtSite a ws →
         TakenAt b.old.limit t ws (Counted n) (place w.entry) after result b.new }
@@ -122,21 +121,21 @@ fn take_number(b: &mut Build, n: u16, a: Site, w: Spot) -> Result<Begun, BuildFa
             offset: a.offset,
             cause,
         }),
-        None => at(w, take_counted(b, n, w)),
+        None => at(w, lay_counted(b, n, w)),
     }
 }
 
-/// Takes one more word.
-pub fn take(b: &mut Build, begun: Begun, w: Spot) -> Result<Begun, BuildFault>
+/// Reads one more word.
+pub fn read_word(b: &mut Build, begun: Begun, w: Spot) -> Result<Begun, BuildFault>
     requires { IsBegun b.old begun }
     ensures { (t : Items) (ws after : List Place) (stage : Stage) → Shows begun ws stage →
         IsState b.old.limit b.old t ws stage → TakenAt b.old.limit t ws stage (place w.entry) after result b.new }
 {
     match begun {
-        Begun::Whole => at(w, take_item(b, w)),
-        Begun::Counted(n, a) => take_number(b, n, a, w),
-        Begun::Due(lead) => at(w, take_name(b, lead, w)),
-        Begun::Chosen(v) => at(w, take_definitions(b, v, w)),
-        Begun::Inside(p) => at(w, take_body(b, p, w)),
+        Begun::Whole => at(w, begin_item(b, w)),
+        Begun::Counted(n, a) => read_after_number(b, n, a, w),
+        Begun::Due(lead) => at(w, name_item(b, lead, w)),
+        Begun::Chosen(v) => at(w, expect_definitions(b, v, w)),
+        Begun::Inside(p) => at(w, compile_word(b, p, w)),
     }
 }

@@ -3,7 +3,7 @@ use Rattle.std.proofs.Common.{◌≡◌, ◌≢◌, Result, Ok, Err, IfOk, Match
 use Rattle.image_loader.specs.declared.fault.ImageFault.{ImageFault}
 use Rattle.image_loader.specs.declared.fault.ImageFault.TheVariants as fault
 use Rattle.image_loader.specs.Files.{Contents}
-use Rattle.image_loader.specs.Reading.{IsCopied}
+use Rattle.image_loader.specs.Checks.{IsCopied}
 
 -- a fault other than that memory ran out is answered exactly if it is found
 pub same_fault : (found copy : Result Contents ImageFault) (x : ImageFault) (P : Type 0) → x ≢ fault.OutOfMemory → IsCopied found copy

@@ -7,7 +7,7 @@ use Rattle.std.proofs.lemmas.Slice.Eq.{bytes_eq-Decides}
 use Rattle.memory.specs.Bytes.{IsCount}
 use Rattle.image_loader.specs.declared.fault.ImageFault.TheVariants as fault
 use Rattle.image_loader.specs.Files.{Contents, IsImage, IsCutShort, Opens, Agree, HasBadMagic, HasBadVersion, HasBadBuffers, magic, version, opening, field_at, tail}
-use Rattle.image_loader.specs.Reading.{agree, is_bad_count, opening_of}
+use Rattle.image_loader.specs.Checks.{agree, is_bad_count, opening_of}
 use Rattle.image_loader.proofs.Tails.{padded, blank}
 
 decide : (r : Bool) (P : Type 0) → Decides r P → P ⊎ (¬ P)

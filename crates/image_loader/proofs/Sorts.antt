@@ -7,7 +7,7 @@ use Rattle.byteorder.specs.Endian.{little_number}
 use Rattle.image_loader.specs.Files.{Contents, IsFile, IsCutShort, IsFollowed, Opens, HasBadMagic, HasBadVersion, HasBadBuffers, HasBadSize, Agree, IsSize, field_at, tail}
 use Rattle.image_loader.specs.declared.fault.ImageFault.{ImageFault}
 use Rattle.image_loader.specs.declared.fault.ImageFault.TheVariants as fault
-use Rattle.image_loader.specs.Reading.{opening_of, tail_of, read_of, and_then}
+use Rattle.image_loader.specs.Checks.{opening_of, tail_of, read_of, and_then}
 use Rattle.image_loader.proofs.Tails.{AreBytes, Tail, is_whole, is_cut, is_long, is_bad, tail_sort, whole_reads, followed_tail_reads, cut_tail_reads, bad_tail_reads}
 use Rattle.image_loader.proofs.Openings.{Opening, ends_within, opens, opening_sort, opening_reads, opened_count, cut_opening_reads, front_is}
 use Rattle.image_loader.proofs.Openings as o

@@ -8,7 +8,7 @@ use Rattle.memory.specs.Bytes.{IsCount}
 use Rattle.memory.proofs.Limits.{limit_least, limit_most}
 use Rattle.image_loader.specs.declared.fault.ImageFault.TheVariants as fault
 use Rattle.image_loader.specs.Files.{Contents, IsSize, IsImage, field, field_at, tail}
-use Rattle.image_loader.specs.Reading.{is_bad_size, body_by, tail_of}
+use Rattle.image_loader.specs.Checks.{is_bad_size, body_by, tail_of}
 
 -- each element is a byte
 abbrev pub AreBytes : List ℕ → Type 0

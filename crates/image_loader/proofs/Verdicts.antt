@@ -3,7 +3,7 @@ use Rattle.std.proofs.Common.{◌≡◌, ℕ, List, Result, Ok, Err, IfOk, IsOk,
 use Rattle.image_loader.specs.declared.fault.ImageFault.{ImageFault}
 use Rattle.image_loader.specs.declared.fault.ImageFault.TheVariants as fault
 use Rattle.image_loader.specs.Files.{Contents, IsFile, IsCutShort, IsFollowed, HasBadMagic, HasBadVersion, HasBadBuffers, HasBadSize}
-use Rattle.image_loader.specs.Reading.{read_of}
+use Rattle.image_loader.specs.Checks.{read_of}
 use Rattle.image_loader.proofs.Tails.{AreBytes}
 use Rattle.image_loader.proofs.Sorts.{Kind, kind_of, is_file, is_cut_short, is_followed, has_bad_magic, has_bad_version, has_bad_buffers, has_bad_size, file_reads, cut_short_reads, followed_reads, bad_magic_reads, bad_version_reads, bad_buffers_reads, bad_size_reads}
 

@@ -2,7 +2,7 @@
 
 ghost use Rattle.std.specs.Prelude.{◌≡◌, ◌≤◌, length, IfOk};
 ghost use Rattle.memory.specs.Bytes.{IsCount};
-ghost use Rattle.image_loader.specs.Reading.{agree, buffers_of, opening_of};
+ghost use Rattle.image_loader.specs.Checks.{agree, buffers_of, opening_of};
 
 use crate::fault::ImageFault;
 use byteorder::{ByteOrder, LittleEndian};

@@ -3,7 +3,7 @@
 ghost use Rattle.std.specs.Prelude.{◌≡◌, ◌↔◌, IfOk, MatchResult, Ok, IsErrOf};
 ghost use Rattle.memory.specs.Bytes.{IsCount};
 ghost use Rattle.image_loader.specs.Files.{Contents, IsFile, IsCutShort, IsFollowed, HasBadMagic, HasBadVersion, HasBadBuffers, HasBadSize};
-ghost use Rattle.image_loader.specs.Reading.{IsCopied, tail_of, read_of};
+ghost use Rattle.image_loader.specs.Checks.{IsCopied, tail_of, read_of};
 
 use crate::borrowed::BorrowedImage;
 use crate::fault::ImageFault;

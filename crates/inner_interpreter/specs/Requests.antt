@@ -10,7 +10,7 @@ use Rattle.machine.specs.Answer.{Reply, ReadOk, WriteOk, asked_by}
 use Rattle.inner_interpreter.specs.Moves.{Tick, Answer, after_turn}
 
 -- the machine's buffers are in order: no block is in two of them, none is asked to be read that one of them has, and each
--- that is asked to be written is in one of them; a key is asked if it has room, a line where EXPECT's two cells are
+-- that is asked to be written is in one of them; a key is asked if it has room, a line if EXPECT's two cells are
 pub record IsOrderly (s : State) : Type 0 where
   pub buffers : AreBuffers s.parts.buffers
   pub once : HasNoBlockTwice s.parts.buffers
@@ -49,7 +49,7 @@ token_of s = (taken s.parts).0
 abbrev pub IsBelowBuffers : State → ℕ → Type 0
 IsBelowBuffers s w = w + 2 ≤ limit s.parts.buffers
 
--- where a machine runs on, and the code field of its next token is below the buffers: of the number in that field
+-- if a machine runs on, and the code field of its next token is below the buffers: of the number in that field
 abbrev pub OfNextCode : State → (ℕ → Type 0) → Type 0
 OfNextCode s Of =
     Runs s → IsOrderly s → length s.parts.memory ≡ 65536 → IsBelowBuffers s (token_of s) → Of (cell s.parts.memory (token_of s))

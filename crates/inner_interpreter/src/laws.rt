@@ -32,7 +32,7 @@ pub fn slices_law()
         (m : ℕ) × (rounds m w ≡ with_left (w.left - a) (rounds n (with_left a w))) }
 {}
 
-/// If no reader fails, a run stops with `InputFault` only where the machine had halted so before.
+/// If no reader fails, a run stops with `InputFault` only if the machine had halted so before.
 pub fn input_fault_law()
     ensures { (w : World) (n : ℕ) → w.state.halt ≢ Some Cause.InputFault → stops (rounds n w) ≢ Some Stop.InputFault }
 {}

@@ -74,7 +74,7 @@ fn run_by<'m, R: Input, W: Output, D: Device, N: Tracer, T: Output>(
     Ran { memory, stop }
 }
 
-/// The same, where memory is the caller's.
+/// The same, if memory is the caller's.
 fn run_in<R: Input, W: Output, D: Device, N: Tracer, T: Output>(
     alloc: Global,
     line: &mut Vec<u8>,

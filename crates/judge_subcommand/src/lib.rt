@@ -1,8 +1,9 @@
 //! `judge` over the files that the command line names.
 #![tactic(auto)]
 
-ghost use Rattle.std.specs.Prelude.{◌≡◌, ◌⊎◌, false, true, IfErr, IfOk, IsNone};
-ghost use Rattle.named_files.specs.Done.{IsPassedOn, Refuses, done, status_of};
+ghost use Rattle.std.specs.Prelude.{◌≡◌, ◌⊎◌, false, true, IsNone};
+ghost use Rattle.named_files.specs.Done.{IsPassedOn, Refuses, status_of};
+ghost use Rattle.named_files.specs.Begun.{Began, NotBegun};
 ghost use Rattle.subcommands.specs.Lines.{OfImageFile, PrintsNoImage};
 ghost use Rattle.judge_subcommand.specs.Judged.{EndsJudged, Judges, judge_steps};
 
@@ -74,11 +75,10 @@ pub fn judge_pupil<F: Files, W: Output>(
     writer: &mut W,
     judged: Judged<'_>,
 ) -> Result<u8, u8>
-    ensures judged { IfOk result (λ status. Judges judged.entry.image.now judged.entry.texts.now judged.entry.course.now
-        judged.entry.pupil.now status (W.failed writer.new) (done (F.log files.old) (W.sent writer.old))
-        (done (F.log files.new) (W.sent writer.new))) }
-    ensures refused { IfErr result (λ status. Refuses (judge_steps judged.entry.image.now judged.entry.texts.now judged.entry.course.now
-        judged.entry.pupil.now) status (done (F.log files.old) (W.sent writer.old)) (done (F.log files.new) (W.sent writer.new))) }
+    ensures judged { Began F.log W.Output files.old files.new writer.old writer.new result
+        (Judges judged.entry.image.now judged.entry.texts.now judged.entry.course.now judged.entry.pupil.now) }
+    ensures refused { NotBegun F.log W.Output files.old files.new writer.old writer.new result
+        (Refuses (judge_steps judged.entry.image.now judged.entry.texts.now judged.entry.course.now judged.entry.pupil.now)) }
     ensures cut { W.failed writer.old ≡ false → W.failed writer.new ≡ true → status_of result ≡ 5 }
     ensures passed { IsPassedOn (status_of result) (W.failed writer.new) (W.passed writer.new) (W.sent writer.old) (W.sent writer.new) }
 {

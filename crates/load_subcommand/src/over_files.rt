@@ -1,8 +1,9 @@
 //! `load` over the files that the command line names.
 
-ghost use Rattle.std.specs.Prelude.{◌≡◌, false, true, IfErr, IfOk};
+ghost use Rattle.std.specs.Prelude.{◌≡◌, false, true};
 ghost use Rattle.load_subcommand.specs.Files.{Loads, load_steps};
-ghost use Rattle.named_files.specs.Done.{IsPassedOn, Refuses, done, status_of};
+ghost use Rattle.named_files.specs.Done.{IsPassedOn, Refuses, status_of};
+ghost use Rattle.named_files.specs.Begun.{Began, NotBegun};
 
 use crate::load_command::do_load;
 use block_buffers::{BLOCK_SIZE, Device, MemoryDevice};
@@ -11,7 +12,9 @@ use machine_parts::faults::{BAD_LENGTH, NOT_FOUND};
 use memory::Memory;
 use memory::system::{BLK, TO_IN};
 use metacompiler::{LoadFault, load_on};
-use named_files::{Files, blocks_of, read_screen, word_before, word_behind, write_made};
+use named_files::{
+    Ends, Files, Places, blocks_of, read_screen, word_before, word_behind, write_made,
+};
 use subcommands::Ended;
 
 /// Where the word begins for which the screen stopped when the stream had come to `place`: a name that isn't found, or that
@@ -25,7 +28,7 @@ fn word_at_fault(screen: &[u8; BLOCK_SIZE], place: u16, cause: LoadFault) -> u16
 
 /// Says on standard error where and why the image couldn't load the screens from the first to the last: it is tried again
 /// with the blocks as they were before. If that isn't known, nothing is promised.
-fn show_stop<F: Files>(
+fn show_stop<F: Files + Places>(
     files: &F,
     name: &str,
     image: &[u8],
@@ -70,16 +73,15 @@ pub struct Load<'a> {
 
 /// Lets the image that `load` names compile screens, and writes the image that results. If that cannot begin, it is printed why, and
 /// the status is the error.
-pub fn load_screens<F: Files, W: Output>(
+pub fn load_screens<F: Ends + Places, W: Output>(
     files: &mut F,
     writer: &mut W,
     load: Load<'_>,
 ) -> Result<u8, u8>
-    ensures loaded { IfOk result (λ status. Loads load.entry.image.now load.entry.blocks.now load.entry.from load.entry.to load.entry.out.now
-        load.entry.limit status (W.failed writer.new)
-        (done (F.log files.old) (W.sent writer.old)) (done (F.log files.new) (W.sent writer.new))) }
-    ensures refused { IfErr result (λ status. Refuses (load_steps load.entry.image.now load.entry.blocks.now load.entry.out.now) status
-        (done (F.log files.old) (W.sent writer.old)) (done (F.log files.new) (W.sent writer.new))) }
+    ensures loaded { Began F.log W.Output files.old files.new writer.old writer.new result
+        (Loads load.entry.image.now load.entry.blocks.now load.entry.from load.entry.to load.entry.out.now load.entry.limit) }
+    ensures refused { NotBegun F.log W.Output files.old files.new writer.old writer.new result
+        (Refuses (load_steps load.entry.image.now load.entry.blocks.now load.entry.out.now)) }
     ensures cut { W.failed writer.old ≡ false → W.failed writer.new ≡ true → status_of result ≡ 5 }
     ensures passed { IsPassedOn (status_of result) (W.failed writer.new) (W.passed writer.new) (W.sent writer.old) (W.sent writer.new) }
 {

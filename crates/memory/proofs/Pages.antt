@@ -1,4 +1,4 @@
--- What stays where a page of bytes is written.
+-- What stays if a page of bytes is written.
 use Rattle.std.proofs.Common.{◌≡◌, ℕ, ◌+◌, ◌<◌, ◌≤◌, ◌++◌, List, length, length-append, length-drop, take, drop, arith, ◌-◌, refl, ◌∙◌}
 use Rattle.std.proofs.lemmas.List.{get_or-take, length-take-le}
 use Rattle.std.proofs.Math.ListN.{get_or-append}

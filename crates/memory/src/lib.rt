@@ -44,7 +44,7 @@ fn put_part(bytes: &mut [u8], start: usize, part: &[u8])
 }
 
 impl Memory {
-    /// Memory of zeros, where the caller wants it: it takes nothing from `alloc`, and never fails. `boxed` is for the heap.
+    /// Memory of zeros, if the caller wants it: it takes nothing from `alloc`, and never fails. `boxed` is for the heap.
     #[tactic(auto, using(crate::proofs::Behind::zeros_are))]
     pub fn new(_alloc: Global) -> Result<Memory, OutOfMemory>
         ensures zeros { IfOk result (λ m. stored m ≡ zeros) }

@@ -16,7 +16,7 @@ use Rattle.source_words.specs.Modes.{takes_text, begins_comment, mode_after}
 use Rattle.source_words.specs.Words.{SourceWord}
 use Rattle.image_builder.specs.Spelled.{keyword}
 use Rattle.resident_bodies.proofs.Bodies.{grows}
-use Rattle.metacompiler.specs.Reading.{next, name}
+use Rattle.metacompiler.specs.ScreenStream.{next, name}
 use Rattle.metacompiler.specs.Meaning.{token_of, Key, IsKey, Means, IsBeside}
 use Rattle.metacompiler.specs.Turning.{words_left, Leads, Met}
 use Rattle.metacompiler.specs.Opened.{Drafts, Turned}

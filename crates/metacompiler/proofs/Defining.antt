@@ -34,7 +34,7 @@ use Rattle.machine.specs.State.{loaded_state}
 use Rattle.compiling_words.specs.Code.{runtime}
 use Rattle.metacompiler.specs.Loop.{Words}
 use Rattle.metacompiler.specs.Rounds.{at, Out, rounds, then_screens, out, Ended, screens}
-use Rattle.metacompiler.specs.Reading.{next, name}
+use Rattle.metacompiler.specs.ScreenStream.{next, name}
 use Rattle.metacompiler.specs.Meaning.{Keys, Key, Means}
 use Rattle.metacompiler.specs.Sources.{ColonDefinition, laid_one, laid_all, Defines, AreDefined}
 use Rattle.metacompiler.specs.Orderly.{IsHead, Orderly}

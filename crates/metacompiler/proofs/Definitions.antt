@@ -41,7 +41,7 @@ use Rattle.source_words.specs.Modes.{begins_body, begins_comment}
 use Rattle.image_builder.specs.Spelled.{keyword}
 use Rattle.metacompiler.specs.Loop.{Words}
 use Rattle.metacompiler.specs.Rounds.{at}
-use Rattle.metacompiler.specs.Reading.{Reading, next, name}
+use Rattle.metacompiler.specs.ScreenStream.{Reading, next, name}
 use Rattle.metacompiler.specs.Meaning.{Key, IsKey, Keys}
 use Rattle.metacompiler.specs.Orderly.{IsHead, Orderly}
 use Rattle.metacompiler.specs.Turning.{MovesStream, KeepsStream, Ready, Holds}

@@ -35,7 +35,7 @@ use Rattle.resident_bodies.proofs.Ending.{kept_cell}
 use Rattle.metacompiler.specs.Meaning.{name_first, token_as, Keys, Key, Means, IsKey}
 use Rattle.metacompiler.specs.Loop.{Words}
 use Rattle.metacompiler.specs.Rounds.{at}
-use Rattle.metacompiler.specs.Reading.{next, name}
+use Rattle.metacompiler.specs.ScreenStream.{next, name}
 use Rattle.metacompiler.specs.Turning.{IsReliable, Ready, words_left, Spot, spot, Leads}
 use Rattle.metacompiler.specs.Opened.{Opened, Drafts, Turned}
 use Rattle.metacompiler.proofs.Turns.{length_text}

@@ -472,7 +472,7 @@ sees_fronted {limit} ws a cur ctx most here head n m g l i f hidden c t =
       behind = apart.behind;
     }
 
--- where memory agrees
+-- if memory agrees
 header_agrees : (m n : List ℕ) (here l : ℕ) → Agrees m n → cell n 28 ≡ here → here ≤ GREATEST_LIMIT → 34 ≤ l → l + (5 + name_length n l) ≤ here → HeaderSame n m l
 header_agrees m n here l g e h a b = record { ends = omega arith; same = λ i y z. sym (g.same i (omega arith) (omega arith) (omega arith) (omega arith)) }
 

@@ -327,6 +327,6 @@ has_chains m a b c d p q r h (x, inl e) = subst (λ (j : ℕ). ChainIn m j d) (s
 has_chains m a b c d p q r h (x, inr (inl e)) = subst (λ (j : ℕ). ChainIn m j d) (sym e) (in_more m (head_of (cell m CONTEXT) x) c d (q.chains x) r.kept)
 has_chains m a b c d p q r h (x, inr (inr e)) = subst (λ (j : ℕ). ChainIn m j d) (sym e) (r.chains x)
 
--- what holds where an answer is true
+-- what holds if an answer is true
 pub where_true : {E : Type 0} (r : Result Bool E) (A B : Type 0) → IfOk r (λ w. IsTrue w → A) → (A → B) → IfOk r (λ w. IsTrue w → B)
 where_true r A B x f = grind arith

@@ -29,7 +29,7 @@ use Rattle.metacompiler.specs.Compiled.{memory_of, context_behind, Agree, Enough
 use Rattle.metacompiler.proofs.Orders.{orderly_kept}
 use Rattle.metacompiler.proofs.Defining.{context_of, agrees_self, saved_as, load_law, enough_law}
 
--- How many headers of at least seven bytes have room, where no two overlap.
+-- How many headers of at least seven bytes have room, if no two overlap.
 
 -- two places at least seven bytes apart
 abbrev pub Beside : ℕ → ℕ → Type 0

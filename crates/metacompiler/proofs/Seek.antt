@@ -33,7 +33,7 @@ use Rattle.input_source.specs.declared.words.Word.{Word}
 use Rattle.plain_rows.specs.Table.{row_in}
 use Rattle.primitives.specs.Table.{row, input}
 use Rattle.machine.specs.Tick.{ticked}
-use Rattle.metacompiler.specs.Reading.{next, name, Reading}
+use Rattle.metacompiler.specs.ScreenStream.{next, name, Reading}
 use Rattle.metacompiler.specs.Turning.{words_left, MovesStream, IsReliable, Ready, Holds, spot, Leads, Met}
 use Rattle.metacompiler.specs.Loop.{Words}
 use Rattle.metacompiler.specs.Rounds.{rounds, then_screens, entered, at, due, out, Ended}

@@ -48,7 +48,7 @@ use Rattle.compiling_words.specs.Laying.{laid}
 use Rattle.resident_bodies.proofs.Rows.{compiles_past_is}
 use Rattle.metacompiler.specs.Loop.{Words, Thread}
 use Rattle.metacompiler.specs.Rounds.{rounds, Goes, at, due, is_ended, out, Ended, by_device, by_tick, Out, then_screens}
-use Rattle.metacompiler.specs.Reading.{Reading, stream, next, name}
+use Rattle.metacompiler.specs.ScreenStream.{Reading, stream, next, name}
 use Rattle.metacompiler.specs.Seen.{Sees}
 use Rattle.metacompiler.specs.Turning.{MovesStream, KeepsStream, Ready, Spot, spot, Leads}
 use Rattle.machine.specs.declared.act.Event.TheVariants as event
@@ -422,7 +422,7 @@ room_is n h = grind arith
 pub reading_at : (u : Whole) (d : List ℕ) (i b p : ℕ) (text : List ℕ) → Reading u b p text → Reading (at u d i) b p text
 reading_at u d i b p text r = record { blk = r.blk; some = r.some; available = r.available; held = r.held; front = r.front; count = r.count; slot = r.slot; there = r.there; place = r.place; within = r.within; all = r.all }
 
--- and where memory changed, but not the stream
+-- and if memory changed, but not the stream
 pub reading_aside : {limit : ℕ} (u : Whole) (m : List ℕ) (b p q : ℕ) (text : List ℕ) → limit_of (length u.buffers) ≡ limit → Reading u b p text → KeepsStream limit u.memory m q → Reading (record u { memory = m }) b q text
 reading_aside {limit} u m b p q text lm r s = search (arith, limit_is, bytes_by)
 

@@ -48,7 +48,7 @@ use Rattle.metacompiler.specs.Turning.{MovesStream, KeepsStream, Holds, Ready}
 use Rattle.metacompiler.specs.Opened.{Opened, Drafts, Turned}
 use Rattle.metacompiler.proofs.Orders.{hidden_named, sees_fronted}
 use Rattle.metacompiler.specs.Rounds.{at}
-use Rattle.metacompiler.specs.Reading.{Reading, stream, next, name}
+use Rattle.metacompiler.specs.ScreenStream.{Reading, stream, next, name}
 use Rattle.metacompiler.specs.Meaning.{Key}
 use Rattle.metacompiler.proofs.Turns.{takes, takes_compiled, takes_executed, takes_single, takes_double, named_here, reads_here, parsed_here, parsed_within, some_bytes, next_within, length_text, reading_at, ready_aside, moves, aside_moved, aside_on, compiled, executed, leads_by, ready_least}
 
@@ -78,7 +78,7 @@ bytes_stand m bs pf l h e =
 stands_moved : {limit : ℕ} (m m' bs : List ℕ) (pf : ℕ) → limit ≤ GREATEST_LIMIT → length m ≡ 65536 → 256 ≤ pf → pf + length bs ≤ limit → MovesStream limit m m' → Stands m pf bs → Stands m' pf bs
 stands_moved {limit} m m' bs pf top l lo h k s = grind (arith, bytes_stand, bytes_by, stands_bytes)
 
--- the draft, where the stream moved
+-- the draft, if the stream moved
 pub drafts_kept : {limit : ℕ} (m1 : List ℕ) (pf : ℕ) (o : Outer) (t : Body) (h : Half) (d below m m' : List ℕ) → 256 ≤ pf → limit ≤ GREATEST_LIMIT → MovesStream limit m m' → Drafts limit m1 pf o t h d below m → Drafts limit m1 pf o t h d below m'
 drafts_kept {limit} m1 pf o t h d below m m' lo top k g =
     let room = g.room in

@@ -1,6 +1,6 @@
 pub mod Loop
 pub mod Rounds
-pub mod Reading
+pub mod ScreenStream
 pub mod Meaning
 pub mod Sources
 pub mod Sample

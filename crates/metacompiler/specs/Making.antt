@@ -68,7 +68,7 @@ pub record IsLed (p q : Stage) (y : Option Stop) : Type 0 where
   pub goes : GoesOn q.machine y
   pub leads : LeadsTo p q y
 
--- where a request waited answered, or nothing was done
+-- if a request waited, it was answered, or nothing was done
 abbrev pub IsSettledBy : Request → (p q : Stage) → Option Stop → Type 0
 IsSettledBy (Read u) p q y = IsLed p q y
 IsSettledBy (Write u) p q y = IsLed p q y

@@ -30,7 +30,7 @@ behind p Tick = stage (after_turn p.machine Tick) p.calls (p.left - 1)
 behind p (Answer reply) = stage (after_turn p.machine (Answer reply)) (p.calls ++ device_call p.machine (Answer reply)) p.left
 behind p (Enter word) = stage (after_turn p.machine (Enter word)) p.calls p.left
 
--- why rounds stop after a tick with this event, if they do: where the device is asked they go on
+-- why rounds stop after a tick with this event, if they do: when the device is asked they go on
 abbrev pub stop_by_tick : State → Event → Option Stop
 stop_by_tick s (event.Ask (Read u)) = None
 stop_by_tick s (event.Ask (Write u)) = None
@@ -95,7 +95,7 @@ is_stopped (Err Asked) = true
 is_stopped (Err loaded.Limit) = true
 is_stopped _ = false
 
--- where screens that are read by this word stop before the end of one, the machine is as its rounds left it
+-- if screens that are read by this word stop before the end of one, the machine is as its rounds left it
 unfoldable pub HasStopped : (word from to : ℕ) → (p : Stage) → State → (calls : List DeviceCall) → Result Contents LoadFault → Type 0
 HasStopped word from to p machine calls result =
     is_stopped result ≡ true → (left : ℕ) × (stop : Stop)

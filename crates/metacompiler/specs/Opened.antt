@@ -36,7 +36,7 @@ pub record Drafts (limit : ℕ) (m1 : List ℕ) (pf : ℕ) (o : Outer) (t : Body
   pub draft : Draft m1 pf o t h m d below
   pub room : pf + open_size o t h ≤ limit
 
--- some ticks lead from one turn to the next, where memory is of some kind, with these cells on the data stack
+-- some ticks lead from one turn to the next, if memory is of some kind, with these cells on the data stack
 pub record Turned (limit w a : ℕ) (I : List ℕ → List ℕ → Type 0) (u : Whole) (f : Disk) (d : List ℕ) (b q more : ℕ)
     : Type 0 where
   pub memory : List ℕ

@@ -18,6 +18,6 @@ pub record IsCalled (m : List ℕ) (name : List ℕ) (address : ℕ) : Type 0 wh
   pub plain : is_immediate m link ≡ false
   pub address_is : compilation_address m link ≡ address
 
--- the definition of SQ, where DUP and * have these compilation addresses
+-- the definition of SQ, if DUP and * have these compilation addresses
 abbrev pub square : (screen dup times : ℕ) → ColonDefinition
 square screen dup times = record { screen = screen; title = codes "SQ"; body = Simple (Call (Call Empty false dup) false times) }

@@ -9,7 +9,7 @@ use Rattle.source_words.specs.declared.modes.Mode.{Mode}
 use Rattle.source_words.specs.Words.{SourceWord, words_at, after_words, words_of_screens}
 use Rattle.metacompiler.specs.Loop.{Words}
 use Rattle.source_words.specs.Modes.{begins_comment}
-use Rattle.metacompiler.specs.Reading.{Reading, next, name}
+use Rattle.metacompiler.specs.ScreenStream.{Reading, next, name}
 use Rattle.metacompiler.specs.Rounds.{rounds, then_screens, at}
 use Rattle.metacompiler.specs.Seen.{Sees}
 

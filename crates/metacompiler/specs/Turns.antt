@@ -1,4 +1,4 @@
--- How many ticks a turn of INTERPRET's loop takes where (INTERPRET) takes one.
+-- How many ticks a turn of INTERPRET's loop takes if (INTERPRET) takes one.
 use Rattle.std.specs.Prelude.{◌≡◌, ◌≤◌, ◌<◌, ℕ, ◌+◌, ◌∷◌, List, [], length, true, nat_lt}
 use Rattle.memory.specs.Bytes.{cell}
 use Rattle.block_buffers.specs.Disks.{Disk}

@@ -338,7 +338,7 @@ fn passes(memory: &Memory, limit: u16, word: u16, headers: &[u16]) -> bool
                                         && are_beside(memory, context, headers)))))))))
 }
 
-/// Whether a memory has the resident compiler, where the block buffers begin at the limit.
+/// Whether a memory has the resident compiler, if the block buffers begin at the limit.
 pub fn is_resident(alloc: Global, memory: &Memory, limit: u16) -> Result<bool, AllocError>
     ensures { IfOk result (λ resident. IsTrue resident → IsResident limit (stored memory.now)) }
 {

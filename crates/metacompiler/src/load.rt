@@ -150,7 +150,7 @@ fn save(
 }
 
 /// The screens from one to another are loaded by a machine that runs, to which an image with this entry was loaded, as
-/// `load_by_machine` does. Where a screen's rounds stop before its end, its BLK and >IN say where that was.
+/// `load_by_machine` does. If a screen's rounds stop before its end, its BLK and >IN say where that was.
 #[tactic(auto, using(crate::proofs::Answering::refused_loaded, crate::proofs::Answering::stopped_loaded, crate::proofs::Answering::saved_loaded, crate::proofs::Answering::stopped_there, crate::proofs::Answering::saved_there))]
 pub fn load_on<D: Device>(
     machine: &mut LentMachine,
@@ -168,7 +168,7 @@ pub fn load_on<D: Device>(
         (λ word. HasRead word entry from to (stage machine.old (D.calls device.old) limit)
         (D.calls device.new) result) }
 
-    // Where a screen's rounds stop before its end, the machine is as they left it: its BLK and >IN say where that was.
+    // If a screen's rounds stop before its end, the machine is as they left it: its BLK and >IN say where that was.
     ensures stopped { Runs machine.old → IfOk (word_on machine.old from to)
         (λ word. HasStopped word from to (stage machine.old (D.calls device.old) limit) machine.new
         (D.calls device.new) result) }

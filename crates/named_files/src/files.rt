@@ -19,25 +19,14 @@ use std::fs;
 use std::fs::File;
 use std::io::{BufReader, BufWriter, IsTerminal, Stdin};
 
-/// The files of the system, by the names that the command line has. If one can't be used as it is named that is printed, and the
-/// program's status, which is not 0, is the error. Each thing that it is asked to do is noted with the answer. What it opens is handed
-/// back in the end, and noted with all that became of it: whoever opened one file of blocks and hands back one has handed back that.
+/// The files of the system, by the names that the command line has: whole ones. If one can't be used as it is named that is printed, and
+/// the program's status, which is not 0, is the error. Each thing that it is asked to do is noted with the answer.
 pub trait Files {
-    ghost use Rattle.std.specs.Prelude.{◌≡◌, ◌∷◌, [], Some, false, IfOk};
-    ghost use Rattle.named_files.specs.Asking.{Answers, Asks, Refused, discards, given, step};
+    ghost use Rattle.std.specs.Prelude.{◌≡◌, ◌∷◌, []};
+    ghost use Rattle.named_files.specs.Asking.{Answers, Refused, step};
     ghost use Rattle.named_files.specs.Done.{SystemLog};
-    ghost use Rattle.named_files.specs.FileBytes.{opening, reading, reading_old, writing};
-    ghost use Rattle.named_files.specs.Uses.{with_blocks, with_keys, with_trace};
+    ghost use Rattle.named_files.specs.FileBytes.{reading, reading_old, writing};
     ghost use Rattle.named_files.specs.declared.step_log.Deed.TheVariants as deed;
-
-    /// Blocks that are open: those of a file, or none.
-    type Blocks: Device + Drop;
-
-    /// Where typed bytes come from.
-    type Keys: Input + Drop;
-
-    /// The file of a trace that is open.
-    type Trace: Output + Drop;
 
     /// What was asked so far, in order, with the answers; the files that were read and written whole; and what was handed back.
     ghost log: { Self → SystemLog };
@@ -54,84 +43,6 @@ pub trait Files {
     fn refuse_use(&mut self, name: &str, why: &str) -> u8
         ensures asked { Refused (step deed.Take (name.now ∷ [])) result (log self.old).asked (log self.new).asked }
         ensures files { (log self.new).files ≡ (log self.old).files };
-
-    /// Sees to it that a file isn't written over one that is read; `what` is what they are.
-    fn keep_apart(&mut self, read: &str, written: &str, what: &str) -> Result<(), u8>
-        ensures asked { Answers (step deed.KeepApart (read.now ∷ written.now ∷ [])) result (log self.old).asked (log self.new).asked }
-        ensures files { (log self.new).files ≡ (log self.old).files };
-
-    /// Sees to it that a new file isn't written over one that exists.
-    fn keep_absent(&mut self, name: &str) -> Result<(), u8>
-        ensures asked { Answers (step deed.KeepAbsent (name.now ∷ [])) result (log self.old).asked (log self.new).asked }
-        ensures files { (log self.new).files ≡ (log self.old).files };
-
-    /// Sees to it that an image isn't taken for a file of blocks.
-    fn keep_blocks(&mut self, blocks: &str) -> Result<(), u8>
-        ensures asked { Answers (step deed.KeepBlocks (blocks.now ∷ [])) result (log self.old).asked (log self.new).asked }
-        ensures files { (log self.new).files ≡ (log self.old).files };
-
-    /// Sees to it that a trace isn't written over blocks or an image.
-    fn keep_trace(&mut self, trace: &str) -> Result<(), u8>
-        ensures asked { Answers (step deed.KeepTrace (trace.now ∷ [])) result (log self.old).asked (log self.new).asked }
-        ensures files { (log self.new).files ≡ (log self.old).files };
-
-    /// Sees to it that an image isn't written over blocks.
-    fn keep_image(&mut self, image: &str) -> Result<(), u8>
-        ensures asked { Answers (step deed.KeepImage (image.now ∷ [])) result (log self.old).asked (log self.new).asked }
-        ensures files { (log self.new).files ≡ (log self.old).files };
-
-    /// Holds a file that is to be replaced against other runs, to the end of the program. One that doesn't exist isn't held.
-    fn hold(&mut self, name: &str) -> Result<(), u8>
-        ensures asked { Answers (step deed.Hold (name.now ∷ [])) result (log self.old).asked (log self.new).asked }
-        ensures files { (log self.new).files ≡ (log self.old).files };
-
-    /// The blocks of a file that is only read.
-    fn read_alone(&mut self, blocks: &str) -> Result<Self::Blocks, u8>
-        ensures asked { Answers (step deed.OpenToRead (blocks.now ∷ [])) result (log self.old).asked (log self.new).asked }
-        ensures files { (log self.new).files ≡ opening Self.Blocks.block_count result (log self.old).files }
-        ensures fresh { IfOk result (λ blocks. Self.Blocks.calls blocks ≡ []) };
-
-    /// The blocks of a run: those of the file, which is held against other runs, or none if it has no file.
-    fn run_blocks(&mut self, blocks: Option<&str>) -> Result<Self::Blocks, u8>
-        ensures asked { Answers (step deed.Open (given blocks.entry)) result (log self.old).asked (log self.new).asked }
-        ensures files { (log self.new).files ≡ opening Self.Blocks.block_count result (log self.old).files }
-        ensures fresh { IfOk result (λ blocks. Self.Blocks.calls blocks ≡ []) };
-
-    /// The blocks of a run that is traced, and the file of its trace, which is emptied where the run begins.
-    fn run_traced(
-        &mut self,
-        blocks: Option<&str>,
-        trace: &str,
-    ) -> Result<(Self::Blocks, Self::Trace), u8>
-        ensures asked { Answers (step deed.OpenTraced (trace.now ∷ given blocks.entry)) result (log self.old).asked (log self.new).asked }
-        ensures files { (log self.new).files ≡ opening (λ ends. Self.Blocks.block_count ends.0) result (log self.old).files }
-        ensures fresh { IfOk result (λ ends. Self.Blocks.calls ends.0 ≡ []) }
-        ensures empty { IfOk result (λ ends. (Self.Trace.sent ends.1 ≡ Some []) × (Self.Trace.failed ends.1 ≡ false)) };
-
-    /// Standard input.
-    fn input(&mut self) -> Result<Self::Keys, u8>
-        ensures asked { Answers (step deed.Listen []) result (log self.old).asked (log self.new).asked }
-        ensures files { (log self.new).files ≡ (log self.old).files }
-        ensures fresh { IfOk result (λ keys. (Self.Keys.reads keys ≡ []) × (Self.Keys.failed keys ≡ false)) };
-
-    /// Takes back blocks that it opened, and closes them.
-    fn close_blocks(&mut self, blocks: Self::Blocks)
-        ensures asked { (log self.new).asked ≡ (log self.old).asked }
-        ensures used { (log self.new).files ≡ record ((log self.old).files)
-            { used = with_blocks (log self.old).files.used (Self.Blocks.calls blocks) } };
-
-    /// Takes back standard input.
-    fn close_input(&mut self, keys: Self::Keys)
-        ensures asked { (log self.new).asked ≡ (log self.old).asked }
-        ensures used { (log self.new).files ≡ record ((log self.old).files)
-            { used = with_keys (log self.old).files.used (Self.Keys.reads keys) (Self.Keys.failed keys) } };
-
-    /// Takes back the trace of this name, and closes it. If nothing came of the run, the file is removed that was made for it; one that
-    /// existed before stays.
-    fn close_trace(&mut self, name: &str, trace: Self::Trace, is_unused: bool)
-        ensures asked { Asks (discards name.now is_unused) 0 (log self.old).asked (log self.new).asked }
-        ensures used { (log self.new).files ≡ record ((log self.old).files)
-            { used = with_trace (log self.old).files.used (Self.Trace.sent trace) (Self.Trace.passed trace) (Self.Trace.failed trace) } };
 
     /// The bytes of an image's file.
     fn image_bytes(&mut self, image: &str) -> Result<Vec<u8>, u8>
@@ -157,7 +68,114 @@ pub trait Files {
     fn write(&mut self, name: &str, bytes: &[u8]) -> Result<(), u8>
         ensures asked { Answers (step deed.Write (name.now ∷ [])) result (log self.old).asked (log self.new).asked }
         ensures written { (log self.new).files ≡ writing name.now bytes.now result (log self.old).files };
+}
 
+/// What must be so before a file is used: another must not be meant, and no other run may have it.
+pub trait Guards: Files {
+    ghost use Rattle.std.specs.Prelude.{◌≡◌, ◌∷◌, []};
+    ghost use Rattle.named_files.specs.Asking.{Answers, step};
+    ghost use Rattle.named_files.specs.declared.step_log.Deed.TheVariants as deed;
+
+    /// Sees to it that a file isn't written over one that is read; `what` is what they are.
+    fn keep_apart(&mut self, read: &str, written: &str, what: &str) -> Result<(), u8>
+        ensures asked { Answers (step deed.KeepApart (read.now ∷ written.now ∷ [])) result (Self.log self.old).asked (Self.log self.new).asked }
+        ensures files { (Self.log self.new).files ≡ (Self.log self.old).files };
+
+    /// Sees to it that a new file isn't written over one that exists.
+    fn keep_absent(&mut self, name: &str) -> Result<(), u8>
+        ensures asked { Answers (step deed.KeepAbsent (name.now ∷ [])) result (Self.log self.old).asked (Self.log self.new).asked }
+        ensures files { (Self.log self.new).files ≡ (Self.log self.old).files };
+
+    /// Sees to it that an image isn't taken for a file of blocks.
+    fn keep_blocks(&mut self, blocks: &str) -> Result<(), u8>
+        ensures asked { Answers (step deed.KeepBlocks (blocks.now ∷ [])) result (Self.log self.old).asked (Self.log self.new).asked }
+        ensures files { (Self.log self.new).files ≡ (Self.log self.old).files };
+
+    /// Sees to it that a trace isn't written over blocks or an image.
+    fn keep_trace(&mut self, trace: &str) -> Result<(), u8>
+        ensures asked { Answers (step deed.KeepTrace (trace.now ∷ [])) result (Self.log self.old).asked (Self.log self.new).asked }
+        ensures files { (Self.log self.new).files ≡ (Self.log self.old).files };
+
+    /// Sees to it that an image isn't written over blocks.
+    fn keep_image(&mut self, image: &str) -> Result<(), u8>
+        ensures asked { Answers (step deed.KeepImage (image.now ∷ [])) result (Self.log self.old).asked (Self.log self.new).asked }
+        ensures files { (Self.log self.new).files ≡ (Self.log self.old).files };
+
+    /// Holds a file that is to be replaced against other runs, to the end of the program. One that doesn't exist isn't held.
+    fn hold(&mut self, name: &str) -> Result<(), u8>
+        ensures asked { Answers (step deed.Hold (name.now ∷ [])) result (Self.log self.old).asked (Self.log self.new).asked }
+        ensures files { (Self.log self.new).files ≡ (Self.log self.old).files };
+}
+
+/// What a run is given: blocks, standard input, a trace. What is opened is handed back in the end, and noted with all that became of it:
+/// whoever opened one file of blocks and hands back one has handed back that.
+pub trait Ends: Guards {
+    ghost use Rattle.std.specs.Prelude.{◌≡◌, ◌∷◌, [], Some, false, IfOk};
+    ghost use Rattle.named_files.specs.Asking.{Answers, Asks, discards, given, step};
+    ghost use Rattle.named_files.specs.FileBytes.{opening};
+    ghost use Rattle.named_files.specs.Uses.{with_blocks, with_keys, with_trace};
+    ghost use Rattle.named_files.specs.declared.step_log.Deed.TheVariants as deed;
+
+    /// Blocks that are open: those of a file, or none.
+    type Blocks: Device + Drop;
+
+    /// Where typed bytes come from.
+    type Keys: Input + Drop;
+
+    /// The file of a trace that is open.
+    type Trace: Output + Drop;
+
+    /// The blocks of a file that is only read.
+    fn read_alone(&mut self, blocks: &str) -> Result<Self::Blocks, u8>
+        ensures asked { Answers (step deed.OpenToRead (blocks.now ∷ [])) result (Self.log self.old).asked (Self.log self.new).asked }
+        ensures files { (Self.log self.new).files ≡ opening Self.Blocks.block_count result (Self.log self.old).files }
+        ensures fresh { IfOk result (λ blocks. Self.Blocks.calls blocks ≡ []) };
+
+    /// The blocks of a run: those of the file, which is held against other runs, or none if it has no file.
+    fn run_blocks(&mut self, blocks: Option<&str>) -> Result<Self::Blocks, u8>
+        ensures asked { Answers (step deed.Open (given blocks.entry)) result (Self.log self.old).asked (Self.log self.new).asked }
+        ensures files { (Self.log self.new).files ≡ opening Self.Blocks.block_count result (Self.log self.old).files }
+        ensures fresh { IfOk result (λ blocks. Self.Blocks.calls blocks ≡ []) };
+
+    /// The blocks of a run that is traced, and the file of its trace, which is emptied when the run begins.
+    fn run_traced(
+        &mut self,
+        blocks: Option<&str>,
+        trace: &str,
+    ) -> Result<(Self::Blocks, Self::Trace), u8>
+        ensures asked { Answers (step deed.OpenTraced (trace.now ∷ given blocks.entry)) result (Self.log self.old).asked (Self.log self.new).asked }
+        ensures files { (Self.log self.new).files ≡ opening (λ ends. Self.Blocks.block_count ends.0) result (Self.log self.old).files }
+        ensures fresh { IfOk result (λ ends. Self.Blocks.calls ends.0 ≡ []) }
+        ensures empty { IfOk result (λ ends. (Self.Trace.sent ends.1 ≡ Some []) × (Self.Trace.failed ends.1 ≡ false)) };
+
+    /// Standard input.
+    fn input(&mut self) -> Result<Self::Keys, u8>
+        ensures asked { Answers (step deed.Listen []) result (Self.log self.old).asked (Self.log self.new).asked }
+        ensures files { (Self.log self.new).files ≡ (Self.log self.old).files }
+        ensures fresh { IfOk result (λ keys. (Self.Keys.reads keys ≡ []) × (Self.Keys.failed keys ≡ false)) };
+
+    /// Takes back blocks that it opened, and closes them.
+    fn close_blocks(&mut self, blocks: Self::Blocks)
+        ensures asked { (Self.log self.new).asked ≡ (Self.log self.old).asked }
+        ensures used { (Self.log self.new).files ≡ record ((Self.log self.old).files)
+            { used = with_blocks (Self.log self.old).files.used (Self.Blocks.calls blocks) } };
+
+    /// Takes back standard input.
+    fn close_input(&mut self, keys: Self::Keys)
+        ensures asked { (Self.log self.new).asked ≡ (Self.log self.old).asked }
+        ensures used { (Self.log self.new).files ≡ record ((Self.log self.old).files)
+            { used = with_keys (Self.log self.old).files.used (Self.Keys.reads keys) (Self.Keys.failed keys) } };
+
+    /// Takes back the trace of this name, and closes it. If nothing came of the run, the file is removed that was made for it; one that
+    /// existed before stays.
+    fn close_trace(&mut self, name: &str, trace: Self::Trace, is_unused: bool)
+        ensures asked { Asks (discards name.now is_unused) 0 (Self.log self.old).asked (Self.log self.new).asked }
+        ensures used { (Self.log self.new).files ≡ record ((Self.log self.old).files)
+            { used = with_trace (Self.log self.old).files.used (Self.Trace.sent trace) (Self.Trace.passed trace) (Self.Trace.failed trace) } };
+}
+
+/// What standard error says of places in screens.
+pub trait Places {
     /// Whether someone reads standard error at a terminal.
     fn is_watched(&self) -> bool;
 
@@ -235,12 +253,6 @@ impl<'a> Files for SystemFiles<'a> {
     ghost use Rattle.named_files.specs.Done.{system_log};
     ghost use Rattle.named_files.specs.FileBytes.{file_logs};
 
-    type Blocks = FileDevice;
-
-    type Keys = Reading<BufReader<Stdin>>;
-
-    type Trace = Writing<BufWriter<TraceFile>>;
-
     ghost log = { λ s. system_log s.asked.asked (file_logs s.read.files s.written.files
         (record { opened = s.used.opened; blocks = s.used.blocks; keys = s.used.keys; traces = s.used.traces })) };
 
@@ -260,6 +272,63 @@ impl<'a> Files for SystemFiles<'a> {
         status
     }
 
+    fn image_bytes(&mut self, image: &str) -> Result<Vec<u8>, u8> {
+        let answer = opening::image_bytes(self.rt, image);
+        self.note(Deed::Read, &[image], status_of(&answer));
+        let bytes = answer?;
+        self.read = self.read.then(&NamedBytes {
+            name: image,
+            bytes: bytes.as_slice(),
+        });
+        Ok(bytes)
+    }
+
+    fn file_bytes(&mut self, name: &str) -> Result<Vec<u8>, u8> {
+        let answer = opening::file_bytes(self.rt, name);
+        self.note(Deed::Read, &[name], status_of(&answer));
+        let bytes = answer?;
+        self.read = self.read.then(&NamedBytes {
+            name,
+            bytes: bytes.as_slice(),
+        });
+        Ok(bytes)
+    }
+
+    fn old_blocks(&mut self, blocks: &str) -> Result<Vec<u8>, u8> {
+        let answer = opening::old_blocks(self.rt, blocks);
+        self.note(Deed::Read, &[blocks], status_of(&answer));
+        let bytes = answer?;
+        self.read = self.read.then(&NamedBytes {
+            name: blocks,
+            bytes: bytes.as_slice(),
+        });
+        Ok(bytes)
+    }
+
+    fn old_file(&mut self, name: &str) -> Result<Option<Vec<u8>>, u8> {
+        let answer = opening::old_file(self.rt, name);
+        self.note(Deed::Read, &[name], status_of(&answer));
+        let file = answer?;
+        if let Some(bytes) = &file {
+            self.read = self.read.then(&NamedBytes {
+                name,
+                bytes: bytes.as_slice(),
+            });
+        }
+        Ok(file)
+    }
+
+    fn write(&mut self, name: &str, bytes: &[u8]) -> Result<(), u8> {
+        let answer = opening::write(self.rt, name, bytes);
+        self.note(Deed::Write, &[name], status_of(&answer));
+        if answer.is_ok() {
+            self.written = self.written.then(&NamedBytes { name, bytes });
+        }
+        answer
+    }
+}
+
+impl<'a> Guards for SystemFiles<'a> {
     fn keep_apart(&mut self, read: &str, written: &str, what: &str) -> Result<(), u8> {
         let answer = keeping::keep_apart(self.rt, read, written, what);
         self.note(Deed::KeepApart, &[read, written], status_of(&answer));
@@ -296,6 +365,14 @@ impl<'a> Files for SystemFiles<'a> {
         self.held = answer?;
         Ok(())
     }
+}
+
+impl<'a> Ends for SystemFiles<'a> {
+    type Blocks = FileDevice;
+
+    type Keys = Reading<BufReader<Stdin>>;
+
+    type Trace = Writing<BufWriter<TraceFile>>;
 
     fn read_alone(&mut self, blocks: &str) -> Result<FileDevice, u8> {
         let answer = opening::read_alone(self.rt, blocks);
@@ -369,62 +446,9 @@ impl<'a> Files for SystemFiles<'a> {
             self.note(Deed::Discard, &[name], 0);
         }
     }
+}
 
-    fn image_bytes(&mut self, image: &str) -> Result<Vec<u8>, u8> {
-        let answer = opening::image_bytes(self.rt, image);
-        self.note(Deed::Read, &[image], status_of(&answer));
-        let bytes = answer?;
-        self.read = self.read.then(&NamedBytes {
-            name: image,
-            bytes: bytes.as_slice(),
-        });
-        Ok(bytes)
-    }
-
-    fn file_bytes(&mut self, name: &str) -> Result<Vec<u8>, u8> {
-        let answer = opening::file_bytes(self.rt, name);
-        self.note(Deed::Read, &[name], status_of(&answer));
-        let bytes = answer?;
-        self.read = self.read.then(&NamedBytes {
-            name,
-            bytes: bytes.as_slice(),
-        });
-        Ok(bytes)
-    }
-
-    fn old_blocks(&mut self, blocks: &str) -> Result<Vec<u8>, u8> {
-        let answer = opening::old_blocks(self.rt, blocks);
-        self.note(Deed::Read, &[blocks], status_of(&answer));
-        let bytes = answer?;
-        self.read = self.read.then(&NamedBytes {
-            name: blocks,
-            bytes: bytes.as_slice(),
-        });
-        Ok(bytes)
-    }
-
-    fn old_file(&mut self, name: &str) -> Result<Option<Vec<u8>>, u8> {
-        let answer = opening::old_file(self.rt, name);
-        self.note(Deed::Read, &[name], status_of(&answer));
-        let file = answer?;
-        if let Some(bytes) = &file {
-            self.read = self.read.then(&NamedBytes {
-                name,
-                bytes: bytes.as_slice(),
-            });
-        }
-        Ok(file)
-    }
-
-    fn write(&mut self, name: &str, bytes: &[u8]) -> Result<(), u8> {
-        let answer = opening::write(self.rt, name, bytes);
-        self.note(Deed::Write, &[name], status_of(&answer));
-        if answer.is_ok() {
-            self.written = self.written.then(&NamedBytes { name, bytes });
-        }
-        answer
-    }
-
+impl<'a> Places for SystemFiles<'a> {
     fn is_watched(&self) -> bool {
         self.rt.stderr().is_terminal()
     }

@@ -13,7 +13,7 @@ mod streams;
 mod use_log;
 
 pub use file_log::{FileLog, NamedBytes};
-pub use files::{Files, SystemFiles, write_made};
+pub use files::{Ends, Files, Guards, Places, SystemFiles, write_made};
 pub use places::{blocks_of, read_screen, word_before, word_behind};
 pub use refusals::out_of_memory;
 pub use step_log::Deed;

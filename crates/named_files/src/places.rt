@@ -6,7 +6,7 @@ ghost use Rattle.block_buffers.specs.DeviceCalls.{WasRead};
 ghost use Rattle.block_buffers.specs.ReadPages.{AreReadFrom};
 ghost use Rattle.named_files.specs.Trying.{OnlyReads};
 
-use crate::files::Files;
+use crate::files::Places;
 use block_buffers::{BLOCK_SIZE, Device, LINE_SIZE, MemoryDevice, screen_line};
 use std::alloc::{AllocError, Global};
 use std::fmt::Display;
@@ -75,7 +75,7 @@ fn block_in<D: Device>(device: &mut D, block: u16) -> Option<[u8; BLOCK_SIZE]>
 }
 
 /// The bytes of a screen. If it cannot be read, that is shown.
-pub fn read_screen<F: Files, D: Device>(
+pub fn read_screen<F: Places, D: Device>(
     files: &F,
     name: &str,
     device: &mut D,

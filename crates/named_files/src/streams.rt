@@ -46,7 +46,7 @@ pub fn standard_input(rt: &HostRuntime) -> Result<Reading<BufReader<Stdin>>, u8>
     }
 }
 
-/// The file of a trace, which is emptied where the run begins. What a terminal is shown is written at once. Where the file
+/// The file of a trace, which is emptied when the run begins. What a terminal is shown is written at once. Where the file
 /// can't be opened that is printed, and the status is the error.
 pub fn trace_file(rt: &HostRuntime, name: &str) -> Result<Writing<BufWriter<TraceFile>>, u8>
     ensures empty { IfOk result (λ trace. (⟦<Writing<BufWriter<TraceFile>> as Output>⟧.sent trace ≡ Some [])

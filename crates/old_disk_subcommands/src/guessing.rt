@@ -1,7 +1,8 @@
 //! `guess`.
 
-ghost use Rattle.std.specs.Prelude.{◌≡◌, ◌⊎◌, false, true, IfErr, IfOk, IsNone};
-ghost use Rattle.named_files.specs.Done.{IsPassedOn, Refuses, done, status_of};
+ghost use Rattle.std.specs.Prelude.{◌≡◌, ◌⊎◌, false, true, IsNone};
+ghost use Rattle.named_files.specs.Done.{IsPassedOn, Refuses, status_of};
+ghost use Rattle.named_files.specs.Begun.{Began, NotBegun};
 ghost use Rattle.subcommands.specs.Lines.{Prints};
 ghost use Rattle.old_disk_subcommands.specs.Guessed.{EndsGuessed, Guesses, guess_steps};
 
@@ -73,10 +74,10 @@ pub fn guess_order<F: Files, W: Output>(
     writer: &mut W,
     guess: Guess<'_>,
 ) -> Result<u8, u8>
-    ensures guessed { IfOk result (λ status. Guesses guess.entry.disk.now status (W.failed writer.new)
-        (done (F.log files.old) (W.sent writer.old)) (done (F.log files.new) (W.sent writer.new))) }
-    ensures refused { IfErr result (λ status. Refuses (guess_steps guess.entry.disk.now) status
-        (done (F.log files.old) (W.sent writer.old)) (done (F.log files.new) (W.sent writer.new))) }
+    ensures guessed { Began F.log W.Output files.old files.new writer.old writer.new result
+        (Guesses guess.entry.disk.now) }
+    ensures refused { NotBegun F.log W.Output files.old files.new writer.old writer.new result
+        (Refuses (guess_steps guess.entry.disk.now)) }
     ensures cut { W.failed writer.old ≡ false → W.failed writer.new ≡ true → status_of result ≡ 5 }
     ensures passed { IsPassedOn (status_of result) (W.failed writer.new) (W.passed writer.new) (W.sent writer.old) (W.sent writer.new) }
 {

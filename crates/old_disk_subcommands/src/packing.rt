@@ -1,14 +1,15 @@
 //! `pack`.
 
-ghost use Rattle.std.specs.Prelude.{◌≡◌, ◌<◌, false, true, IfErr, IfOk, MatchOption, length};
-ghost use Rattle.named_files.specs.Done.{IsPassedOn, done, status_of};
+ghost use Rattle.std.specs.Prelude.{◌≡◌, ◌<◌, false, true, MatchOption, length};
+ghost use Rattle.named_files.specs.Done.{IsPassedOn, status_of};
+ghost use Rattle.named_files.specs.Begun.{Began, NotBegun};
 ghost use Rattle.old_disk_subcommands.specs.Unpacked.{Packs, PrintsSome, PrintsWhy, RefusesPack};
 
 use crate::options::{OldDisk, options_of};
 use crate::refusing::{is_said, refuse_disk, refuse_unread};
 use disk_volumes::{Unreadable, is_tracks};
 use inner_interpreter::Output;
-use named_files::{Files, write_made};
+use named_files::{Guards, write_made};
 use old_disks::{Options, Remark, pack};
 use std::alloc::{AllocError, Global};
 use subcommands::{Ended, end_with, print_out_of_memory};
@@ -58,15 +59,15 @@ fn do_pack<W: Output>(
 
 /// Writes the container that `pack` names with the screens of the blocks in it. If it cannot begin, that is printed, and the status is the
 /// error.
-pub fn pack_disk<F: Files, W: Output>(
+pub fn pack_disk<F: Guards, W: Output>(
     files: &mut F,
     writer: &mut W,
     disk: OldDisk<'_>,
 ) -> Result<u8, u8>
-    ensures packed { IfOk result (λ status. Packs disk.entry.blocks.now disk.entry.container.now status (W.failed writer.new)
-        (done (F.log files.old) (W.sent writer.old)) (done (F.log files.new) (W.sent writer.new))) }
-    ensures refused { IfErr result (λ status. RefusesPack disk.entry.blocks.now disk.entry.container.now disk.entry.format.now status
-        (done (F.log files.old) (W.sent writer.old)) (done (F.log files.new) (W.sent writer.new))) }
+    ensures packed { Began F.log W.Output files.old files.new writer.old writer.new result
+        (Packs disk.entry.blocks.now disk.entry.container.now) }
+    ensures refused { NotBegun F.log W.Output files.old files.new writer.old writer.new result
+        (RefusesPack disk.entry.blocks.now disk.entry.container.now disk.entry.format.now) }
     ensures cut { W.failed writer.old ≡ false → W.failed writer.new ≡ true → status_of result ≡ 5 }
     ensures passed { IsPassedOn (status_of result) (W.failed writer.new) (W.passed writer.new) (W.sent writer.old) (W.sent writer.new) }
 {

@@ -1,15 +1,16 @@
 //! `unpack`.
 
-ghost use Rattle.std.specs.Prelude.{◌≡◌, ◌<◌, [], false, true, IfErr, IfOk, MatchOption};
+ghost use Rattle.std.specs.Prelude.{◌≡◌, ◌<◌, [], false, true, IfOk, MatchOption};
 ghost use Rattle.named_files.specs.Asking.{AnswersAll};
-ghost use Rattle.named_files.specs.Done.{IsPassedOn, done, status_of};
+ghost use Rattle.named_files.specs.Done.{IsPassedOn, status_of};
+ghost use Rattle.named_files.specs.Begun.{Began, NotBegun};
 ghost use Rattle.old_disk_subcommands.specs.Unpacked.{IsGrown, PrintsSome, PrintsWhy, RefusesUnpack, Unpacks, before_steps, grown, read_before};
 
 use crate::options::{Unpacking, asked_for, options_of, with_records};
 use crate::refusing::{is_said, refuse_disk, refuse_unread};
 use disk_volumes::{Asked, Tracks, read_disk};
 use inner_interpreter::Output;
-use named_files::{Files, write_made};
+use named_files::{Guards, write_made};
 use old_disks::{Options, Refusal, Unpacked, unpack};
 use std::alloc::{AllocError, Global};
 use subcommands::{Ended, end_with, print_out_of_memory};
@@ -23,7 +24,7 @@ const MOST_BYTES: usize = 65536 * BLOCK_BYTES;
 /// The blocks that come before those that are read: none, if the file of this name is new, or else its own. If it can't be so, that is
 /// printed, and the status is the error.
 #[tactic(auto, unfolding(named_files::specs::Asking::Asks))]
-fn blocks_before<F: Files>(files: &mut F, blocks: &str, appends: bool) -> Result<Vec<u8>, u8>
+fn blocks_before<F: Guards>(files: &mut F, blocks: &str, appends: bool) -> Result<Vec<u8>, u8>
     ensures asked { AnswersAll (before_steps blocks.now appends) result (F.log files.old).asked (F.log files.new).asked }
     ensures read { IfOk result (λ before. (F.log files.new).files ≡ read_before blocks.now appends before.items (F.log files.old).files) }
     ensures none { IfOk result (λ before. appends ≡ false → before.items ≡ []) }
@@ -135,15 +136,15 @@ fn do_unpack<W: Output>(
 
 /// Writes the file of blocks that `unpack` names: a new one, or an old one with more blocks. If it cannot begin, that is printed, and the
 /// status is the error.
-pub fn unpack_disk<F: Files, W: Output>(
+pub fn unpack_disk<F: Guards, W: Output>(
     files: &mut F,
     writer: &mut W,
     unpacking: Unpacking<'_>,
 ) -> Result<u8, u8>
-    ensures unpacked { IfOk result (λ status. Unpacks unpacking.entry.disk.container.now unpacking.entry.disk.blocks.now unpacking.entry.appends
-        status (W.failed writer.new) (done (F.log files.old) (W.sent writer.old)) (done (F.log files.new) (W.sent writer.new))) }
-    ensures refused { IfErr result (λ status. RefusesUnpack unpacking.entry.disk.container.now unpacking.entry.disk.blocks.now
-        unpacking.entry.disk.format.now unpacking.entry.appends status (done (F.log files.old) (W.sent writer.old)) (done (F.log files.new) (W.sent writer.new))) }
+    ensures unpacked { Began F.log W.Output files.old files.new writer.old writer.new result
+        (Unpacks unpacking.entry.disk.container.now unpacking.entry.disk.blocks.now unpacking.entry.appends) }
+    ensures refused { NotBegun F.log W.Output files.old files.new writer.old writer.new result
+        (RefusesUnpack unpacking.entry.disk.container.now unpacking.entry.disk.blocks.now unpacking.entry.disk.format.now unpacking.entry.appends) }
     ensures cut { W.failed writer.old ≡ false → W.failed writer.new ≡ true → status_of result ≡ 5 }
     ensures passed { IsPassedOn (status_of result) (W.failed writer.new) (W.passed writer.new) (W.sent writer.old) (W.sent writer.new) }
 {

@@ -85,7 +85,7 @@ impl Valued {
         }
     }
 
-    /// What is said where its value is no number.
+    /// What is said if its value is no number.
     fn no_number(self) -> Refusal {
         let option = match self {
             Valued::Format => "--format",

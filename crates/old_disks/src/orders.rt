@@ -14,8 +14,8 @@ const SAMPLE: usize = 32 * SCREEN;
 /// How many bytes two orders must share to count as one.
 const SAME: usize = 8 * SCREEN;
 
-/// How many bytes may come before the first sector.
-const OFFSETS: [usize; 5] = [0, 2560, 4096, 6656, 8192];
+/// How many bytes may come before the first sector, if any do.
+const OFFSETS: [usize; 4] = [2560, 4096, 6656, 8192];
 
 /// How many bytes a track of two sides may have.
 const SIDES: [usize; 6] = [2304, 2560, 3328, 4096, 4608, 5120];
@@ -195,9 +195,10 @@ fn push_skewed(orders: &mut Vec<Order>, offset: usize) -> Result<(), AllocError>
     Ok(())
 }
 
-/// Each order that is tried.
+/// Each order that is tried. Of two that look equally like sources the first is shown, so the plainest comes first.
 fn orders(alloc: Global) -> Result<Vec<Order>, AllocError> {
     let mut orders = Vec::new(alloc);
+    orders.push(Order::Plain(0))?;
     orders.push(Order::Turned(128))?;
     orders.push(Order::Turned(256))?;
     for track in SIDES {
@@ -205,6 +206,7 @@ fn orders(alloc: Global) -> Result<Vec<Order>, AllocError> {
     }
     orders.push(Order::Records(24))?;
     orders.push(Order::Records(16))?;
+    push_skewed(&mut orders, 0)?;
     for offset in OFFSETS {
         orders.push(Order::Plain(offset))?;
         push_skewed(&mut orders, offset)?;
@@ -220,17 +222,18 @@ struct Scored {
     screens: Vec<u8>,
 }
 
-/// Puts an order into those that are best, unless one of them has the same screens. The best one comes first, and of several with one score the
-/// first.
+/// Puts an order into those that are best. The best one comes first, and of several with one score the first. Of those with the same first
+/// screens only the best one is kept.
 fn put_in(best: &mut Vec<Scored>, new: Scored) -> Result<(), AllocError> {
     let front = before(new.screens.as_slice(), SAME);
     if front.is_empty()
-        || best
-            .iter()
-            .any(|known| before(known.screens.as_slice(), SAME) == front)
+        || best.iter().any(|known| {
+            known.score >= new.score && before(known.screens.as_slice(), SAME) == front
+        })
     {
         return Ok(());
     }
+    best.retain(|known| before(known.screens.as_slice(), SAME) != front);
     let at = best.iter().filter(|known| known.score >= new.score).count();
     if at < SHOWN && at <= best.len() {
         best.insert(at, new)?;

@@ -51,7 +51,7 @@ put_patch : (front back : List ℕ) (x y i : ℕ) → length front ≡ i → i +
 unfolding put_cell put_byte
 put_patch front back x y i e h = ap (λ j. slice_set (slice_set (front ++ (cell_bytes y ++ back)) i (x % 256)) j (x / 256)) (wrap_small (i + 1) h) ∙ patched (front ++ (cell_bytes y ++ back)) front back x y i refl e
 
--- the system's cells, where memory says these
+-- the system's cells, if memory says these
 abbrev sys : (e l v r a b c d f : ℕ) → List ℕ
 sys e l v r a b c d f = low (λ x.
     (if x == 18 then 10 else

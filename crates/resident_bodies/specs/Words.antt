@@ -1,4 +1,4 @@
--- What the words of a body make of memory and the data stack where the resident compiler reads them.
+-- What the words of a body make of memory and the data stack when the resident compiler reads them.
 use Rattle.std.specs.Prelude.{◌≡◌, ℕ, true, false, ◌+◌, ◌≤◌, ◌/◌, ◌%◌, List, [], ◌∷◌, ◌++◌, length, Option, Some, None}
 use Rattle.cells.specs.Cell.{wrap}
 use Rattle.memory.specs.declared.controls.Control.TheVariants as ctl
@@ -51,12 +51,12 @@ behind_word word s = record s { memory = (lays word s.memory s.values).0; values
 abbrev pub FitsHere : Whole → ℕ → Type 0
 FitsHere s n = cell s.memory DP + n ≤ limit s.buffers
 
--- where >IN is moved first, the word writes these bytes at HERE
+-- if >IN is moved first, the word writes these bytes at HERE
 abbrev pub LaysBehind : (m d : List ℕ) → (to_in : ℕ) → Token → List ℕ → Type 0
 LaysBehind m d to_in word bs =
     (lays word (put_cell m TO_IN to_in) d).0 ≡ laid_at (cell m DP) (put_cell m TO_IN to_in) bs
 
--- the parts where >IN is moved after a word of the stream, and bytes are written
+-- the parts if >IN is moved after a word of the stream, and bytes are written
 abbrev pub laid_past : Whole → Word → List ℕ → Whole
 laid_past s word bs = record s { memory = laid (put_cell s.memory TO_IN word.next) bs }
 

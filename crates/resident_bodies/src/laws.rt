@@ -28,7 +28,7 @@ ghost use Rattle.resident_bodies.specs.Definitions.{OfSound, EndsInColon, Opens,
 ghost use Rattle.resident_bodies.specs.Words.{FitsHere, LaysBehind, behind_word, laid_past, lays, lays_all, row_of, with_true};
 ghost use Rattle.resident_bodies.specs.Drafts.{Beginning, Bodied, HasRoom, IsDraft, MayCome, read_on};
 
-/// What a word of a body writes where the resident compiler reads it is what the word makes of the body that was read in part:
+/// What a word of a body writes when the resident compiler reads it is what the word makes of the body that was read in part:
 /// the bytes of the open structures and the bodies, with a 0 in each cell that waits for its address.
 pub fn word_law()
     ensures { (b : Beginning) (r q : State) (w : Token) (m d : List ℕ) → HasRoom b.at m (laid_by w) →

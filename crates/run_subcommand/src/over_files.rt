@@ -1,29 +1,30 @@
 //! `run` over the files that the command line names, and standard input and output.
 
-ghost use Rattle.std.specs.Prelude.{◌≡◌, false, true, IfErr, IfOk};
+ghost use Rattle.std.specs.Prelude.{◌≡◌, false, true};
 ghost use Rattle.named_files.specs.Asking.{given};
-ghost use Rattle.named_files.specs.Done.{IsPassedOn, Refuses, done, status_of};
+ghost use Rattle.named_files.specs.Done.{IsPassedOn, Refuses, status_of};
+ghost use Rattle.named_files.specs.Begun.{Began, NotBegun};
 ghost use Rattle.run_subcommand.specs.Files.{Runs, run_steps};
 
 use crate::run_command::do_run;
 use inner_interpreter::Output;
-use named_files::Files;
+use named_files::Ends;
 
 /// Opens what `run` names, and runs the image over it, and over standard input. If it cannot start, the reason is printed, and the
 /// status is the error.
-pub fn run_image<F: Files, W: Output>(
+pub fn run_image<F: Ends, W: Output>(
     files: &mut F,
     writer: &mut W,
     image: &str,
     blocks: Option<&str>,
     limit: u64,
 ) -> Result<u8, u8>
-    ensures ran { W.failed writer.old ≡ false → IfOk result (λ status. Runs image.now (given blocks.entry) limit status (W.failed writer.new)
-        (done (F.log files.old) (W.sent writer.old)) (done (F.log files.new) (W.sent writer.new))) }
+    ensures ran { W.failed writer.old ≡ false → Began F.log W.Output files.old files.new writer.old writer.new result
+        (Runs image.now (given blocks.entry) limit) }
     ensures cut { W.failed writer.old ≡ false → W.failed writer.new ≡ true → status_of result ≡ 5 }
     ensures passed { IsPassedOn (status_of result) (W.failed writer.new) (W.passed writer.new) (W.sent writer.old) (W.sent writer.new) }
-    ensures refused { IfErr result (λ status. Refuses (run_steps image.now (given blocks.entry)) status
-        (done (F.log files.old) (W.sent writer.old)) (done (F.log files.new) (W.sent writer.new))) }
+    ensures refused { NotBegun F.log W.Output files.old files.new writer.old writer.new result
+        (Refuses (run_steps image.now (given blocks.entry))) }
 {
     let bytes = files.image_bytes(image)?;
     let mut reader = files.input()?;

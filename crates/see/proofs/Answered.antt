@@ -9,7 +9,7 @@ use Rattle.colon_bodies.proofs.Bytes.{one_thread}
 use Rattle.see.specs.Shown.{Shown}
 use Rattle.see.specs.Extent.{parameter_field, extent, controls_of}
 use Rattle.see.specs.Naming.{IsReadableWord, AreReadableWords, IsReadable, word_fault, words_fault, first_fault, or_fault, is_word}
-use Rattle.see.specs.Reading.{AreCells}
+use Rattle.see.specs.ReadAgain.{AreCells}
 use Rattle.see.specs.Printing.{its_words, printed_text, text}
 use Rattle.see.specs.Seeing.{IsColon, IsCode, HasControlsApart, IsDefined, IsPrinted, IsSeen, IsSeenIn, IsShown, IsUnseen}
 use Rattle.see.specs.declared.refusal.SeeRefused.{SeeRefused}
@@ -42,7 +42,7 @@ words_placed m h (w ∷ ws) = or_placed (word_fault m h w) (words_fault m h ws) 
 first_placed : (m : List ℕ) (l : ℕ) (name : List ℕ) (ws : List Token) (e : SeeRefused) → first_fault m l name ws ≡ Some e → IsPlaced e
 first_placed m l name ws e q = subst IfPlaced q (either (is_word name) (words_fault m l ws) _ (words_placed m l ws) tt)
 
--- nothing is wrong with a word just where it is readable
+-- nothing is wrong with a word exactly if it is readable
 tested : (b : Bool) (e : SeeRefused) → (if b then None else Some e) ≡ None → b ≡ true
 tested b e h = grind arith
 
@@ -116,7 +116,7 @@ told m name k l c d e p q f g =
     let t : c ≡ d = one_thread (slice_index (controls_of m)) q.apart c d (parameter_field m l) code.plain q.code.plain (code.is ∙ sym q.code.is) in
     absurd (cc)
 
--- where a readable definition is, no refusal is true but lack of memory
+-- if there is a readable definition, no refusal is true but lack of memory
 none_unseen : (m name : List ℕ) (e : SeeRefused) → IsUnseen m name e → (l : ℕ) (d : Definition) → IsDefined m name l d → IsReadable m l name (its_words d) → e ≡ r.OutOfMemory
 none_unseen m name e q l d h f = grind (arith, found_once, told, faultless)
 

@@ -100,7 +100,7 @@ repeat_cut (FIf f t l) g b d here to e =
     record { outside = f; test = t; ends = l; front = u.0; back = u.1; is = refl; cuts = split_words t (here - (size b + 4) - to) u.0 u.1 u.2; goes = u.3; makes = u.4 }
 repeat_cut _ g b d here to e = cc
 
--- One word more, or a BEGIN where words already are.
+-- One word more, or a BEGIN at words that are there already.
 
 -- neither BEGIN nor FORCE
 abbrev pub AreOther : List Token → Type 0

@@ -8,7 +8,7 @@ use Rattle.std.specs.Prelude.{codes, Result, Ok, Err}
 use Rattle.see.specs.Seeing.{IsWritten, IsPrinted}
 use Rattle.colon_bodies.specs.Tokens.{Token, NAME, laid, laid_by}
 use Rattle.colon_bodies.specs.Tree.{named}
-use Rattle.see.specs.Reading.{AreCells}
+use Rattle.see.specs.ReadAgain.{AreCells}
 use Rattle.see.specs.Printing.{is_forced, printed, called, all_printed, printed_text}
 use Rattle.see.specs.Naming.{is_word, name_at, word_fault, words_fault, first_fault, or_fault}
 use Rattle.see.specs.declared.refusal.SeeRefused.{SeeRefused}

@@ -28,7 +28,7 @@ use Rattle.colon_bodies.specs.declared.words.Half.{Half}
 use Rattle.colon_bodies.specs.declared.words.Half.TheVariants.{Free, Forced, Compiling, Both}
 use Rattle.colon_bodies.specs.Meaning.{Plain, Keyword, Figure, Wide}
 use Rattle.see.specs.Extent.{controls_of}
-use Rattle.see.specs.Reading.{is_inner, named_token, token_as, token_of, tokens_of, AreCells}
+use Rattle.see.specs.ReadAgain.{is_inner, named_token, token_as, token_of, tokens_of, AreCells}
 use Rattle.std.proofs.lemmas.List.{map-append}
 use Rattle.colon_bodies.specs.Tree.{named}
 use Rattle.colon_bodies.specs.Rules.{half_after}

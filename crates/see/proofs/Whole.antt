@@ -17,7 +17,7 @@ use Rattle.colon_bodies.specs.declared.words.Half.TheVariants.{Free}
 use Rattle.see.specs.Extent.{controls_of, parameter_field, extent}
 use Rattle.see.specs.Naming.{is_word, is_quotable, name_at, number_text, IsReadable, AreReadableWords}
 use Rattle.see.specs.Printing.{printed, called, all_printed, is_forced, is_keyword, its_words, text}
-use Rattle.see.specs.Reading.{tokens_of, AreCells}
+use Rattle.see.specs.ReadAgain.{tokens_of, AreCells}
 use Rattle.see.specs.Seeing.{IsAgain, IsDefined, IsShown, IsReadBack}
 use Rattle.see.proofs.Telling.{bare_is, bare_step, neither, number_bare, number_word, all_told}
 use Rattle.see.proofs.Showing.{are_all_plain, spelled_within}

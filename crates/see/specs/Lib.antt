@@ -10,4 +10,4 @@ pub mod Extent
 pub mod Naming
 pub mod Printing
 pub mod Seeing
-pub mod Reading
+pub mod ReadAgain

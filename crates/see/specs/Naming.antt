@@ -43,7 +43,7 @@ gives_none Nowhere = true
 gives_none (Found k) = false
 gives_none TooLong = false
 
--- the search of a name gives this address, where the header at `hidden` counts as hidden
+-- the search of a name gives this address, if the header at `hidden` counts as hidden
 unfoldable pub is_meant : List ℕ → (hidden : ℕ) → List ℕ → ℕ → Bool
 is_meant m hidden name w = gives m (sought_hiding m name hidden) w
 

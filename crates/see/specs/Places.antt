@@ -8,7 +8,7 @@ without_begins [] = []
 without_begins (BEGIN ∷ ws) = without_begins ws
 without_begins (w ∷ ws) = w ∷ without_begins ws
 
--- 1 where two places are the same
+-- 1 if two places are the same
 abbrev pub once : (n place : ℕ) → ℕ
 once n place = if n == place then 1 else 0
 

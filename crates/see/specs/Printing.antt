@@ -53,7 +53,7 @@ printed m (NUMBER n) = bare (number_text n)
 printed m (TEXT k bs) = record { name = keyword_text (TEXT k bs); text = Some bs }
 printed m w = bare (keyword_text w)
 
--- a name as it is printed, after [COMPILE] where it is forced
+-- a name as it is printed, after [COMPILE] if it is forced
 abbrev pub called : (forced : Bool) → List ℕ → List Spelling
 called false name = bare name ∷ []
 called true name = bare (codes "[COMPILE]") ∷ bare name ∷ []

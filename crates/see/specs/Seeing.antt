@@ -12,7 +12,7 @@ use Rattle.colon_bodies.specs.Code.{whole_code}
 use Rattle.see.specs.Shown.{IsThread, IsWithinBounds}
 use Rattle.see.specs.Extent.{parameter_field, extent, controls_of}
 use Rattle.see.specs.Naming.{words_fault, first_fault, IsReadable}
-use Rattle.see.specs.Reading.{AreCells, IsReadAs}
+use Rattle.see.specs.ReadAgain.{AreCells, IsReadAs}
 use Rattle.see.specs.Printing.{its_words, all_printed, printed_text, text}
 use Rattle.source_words.specs.Spaced.{spaced_behind}
 use Rattle.see.specs.declared.refusal.SeeRefused.{SeeRefused}

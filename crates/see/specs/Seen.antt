@@ -1,15 +1,15 @@
 -- What the decompiler keeps while it reads.
-use Rattle.std.specs.Prelude.{◌≡◌, Bool, true, ℕ, ◌+◌, ◌≤◌, List, [], ◌∷◌, ◌++◌, length, map, Option, Some, None, slice_index}
+use Rattle.std.specs.Prelude.{◌≡◌, Bool, true, ℕ, ◌+◌, ◌-◌, ◌^◌, ◌<◌, ◌≤◌, List, [], ◌∷◌, ◌++◌, length, map, take, drop, Option, Some, None, slice_index}
 use Rattle.see.specs.declared.parts.Part.{Part}
 use Rattle.see.specs.declared.structures.Frame.{Frame}
 use Rattle.see.specs.declared.structures.Frame.TheVariants as k
 use Rattle.colon_bodies.specs.Tokens.{Token, IF, ELSE, DO, DOES}
 use Rattle.colon_bodies.specs.Tree.{Body, words}
 use Rattle.colon_bodies.specs.Code.{size}
-use Rattle.colon_bodies.specs.Instructions.{Instr, len}
-use Rattle.colon_bodies.specs.Structures.{Frames, Shape, In, step, FTop, FPast, FIf, FElse, FDo}
+use Rattle.colon_bodies.specs.Instructions.{IText, Instr, len}
+use Rattle.colon_bodies.specs.Structures.{Frames, Shape, In, again_at, repeat_at, shut, split, step, FTop, FPast, FIf, FElse, FDo}
 use Rattle.see.specs.Places.{without_begins, IsSketch, AreUnforced}
-use Rattle.see.specs.Parts.{token_in}
+use Rattle.see.specs.Parts.{LiesIn, token_in}
 
 -- the words of the open structures; no BEGIN is among them
 abbrev pub frame_words : Frames → List Token
@@ -42,7 +42,7 @@ pub record Seen (at : ℕ) (f : Frames) (c : Body) (here : ℕ) (seen : List Tok
   pub frames_are : frames ≡ frames_of at f
   pub here_is : here ≡ start at f + size c
 
--- one more instruction of a thread of these bytes: where what was read leads on by it, the answer is yes, and what it leads to is
+-- one more instruction of a thread of these bytes: if what was read leads on by it, the answer is yes, and what it leads to is
 -- read up to `next`
 abbrev pub Takes : (bytes : List ℕ) → (at here next : ℕ) → (Frames → Body → Option Shape) → List Part → List ℕ → List Frame →
     Bool → List Part → List ℕ → List Frame → Type 0
@@ -55,6 +55,38 @@ abbrev pub TakesOne : (bytes : List ℕ) → (at here : ℕ) → Instr → List 
     Bool → List Part → List ℕ → List Frame → Type 0
 TakesOne bytes at here i words begins frames ok new_words new_begins new_frames =
     Takes bytes at here (here + len i) (λ f c. step f c here i) words begins frames ok new_words new_begins new_frames
+
+-- an instruction that these bytes have at its place
+abbrev pub TakesThere : (at here : ℕ) → Instr → List Part → List ℕ → List Frame → Bool → List Part → List ℕ → List Frame → Type 0
+TakesThere at here i words begins frames ok new_words new_begins new_frames =
+    (bytes : List ℕ) → here < at + length begins → LiesIn bytes (here - at) i
+    → TakesOne bytes at here i words begins frames ok new_words new_begins new_frames
+
+-- a text of these bytes, wherever the instruction is
+abbrev pub TakesText : (aborts : Bool) → (place length : ℕ) → List Part → Bool → List Part → Type 0
+TakesText aborts place count words ok new_words =
+    (bytes text : List ℕ) (at here : ℕ) (begins : List ℕ) (frames : List Frame) → take count (drop place bytes) ≡ text
+    → TakesOne bytes at here (IText aborts text) words begins frames ok new_words begins frames
+
+-- AGAIN: a branch back within the innermost body
+abbrev pub TakesAgain : (at here to : ℕ) → List Part → List ℕ → Bool → List Part → List ℕ → Type 0
+TakesAgain at here to words begins ok new_words new_begins =
+    (bytes : List ℕ) (frames : List Frame) → here < at + length begins
+    → Takes bytes at here (here + 4) (λ f c. again_at f (split c (here - to))) words begins frames ok new_words new_begins frames
+
+-- REPEAT: a branch back over the start of the innermost body
+abbrev pub TakesRepeat : (at to : ℕ) → List Part → List ℕ → List Frame → Bool → List Part → List ℕ → List Frame → Type 0
+TakesRepeat at to words begins frames ok new_words new_begins new_frames =
+    (bytes : List ℕ) (here : ℕ) (f g : Frames) (c d : Body) → Seen at f c here (map (token_in bytes) words) begins frames
+    → here < at + length begins → here + 4 < 2 ^ 64 → to < start at f → repeat_at f c here to ≡ Some (In g d)
+    → (ok ≡ true) × Seen at g d (here + 4) (map (token_in bytes) new_words) new_begins new_frames
+
+-- the structures that end here are ended
+abbrev pub Closes : (here : ℕ) → List Part → List Frame → List Part → List Frame → Type 0
+Closes here words frames new_words new_frames =
+    (bytes : List ℕ) (at : ℕ) (begins : List ℕ) (f g : Frames) (c d : Body)
+    → Seen at f c here (map (token_in bytes) words) begins frames → shut f c here ≡ In g d
+    → Seen at g d here (map (token_in bytes) new_words) begins new_frames
 
 abbrev pub top_frame : ℕ → Frames → Option Frame
 top_frame at FTop = None

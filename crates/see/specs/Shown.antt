@@ -22,7 +22,7 @@ pub record Shown (rt : ℕ → ℕ) (at : ℕ) (bytes : List ℕ) (shown : List 
   pub words_are : shown ≡ all_words body ++ SEMI ∷ []
   pub is : IsThread rt at bytes body
 
--- each definition of which these bytes are the thread, where no two runtime cells are equal and not 0
+-- each definition of which these bytes are the thread, if no two runtime cells are equal and not 0
 abbrev pub OfThread : (ℕ → ℕ) → (at : ℕ) → List ℕ → (Definition → Type 0) → Type 0
 OfThread rt at bytes P = AreApart rt → (d : Definition) → IsThread rt at bytes d → P d
 

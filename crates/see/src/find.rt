@@ -1,15 +1,15 @@
 //! The words of a thread.
 
-ghost use Rattle.std.specs.Prelude.{◌≡◌, ◌↔◌, IsTrue, ◌≤◌, ◌<◌, ◌^◌, ◌+◌, ◌-◌, true, ℕ, List, [], length, map, sum, take, drop, replicate, Some, slice_index, vec_len, vec_capacity};
+ghost use Rattle.std.specs.Prelude.{◌≡◌, ◌↔◌, IsTrue, ◌≤◌, ◌<◌, ◌^◌, ◌+◌, ◌-◌, true, ℕ, List, [], length, map, sum, take, replicate, Some, slice_index, vec_len, vec_capacity};
 ghost use Rattle.colon_bodies.specs.Tree.{Definition};
-ghost use Rattle.colon_bodies.specs.Instructions.{ICall, INum, ICompile, IText, len};
+ghost use Rattle.colon_bodies.specs.Instructions.{ICall, INum, ICompile, len};
 ghost use Rattle.colon_bodies.specs.Found.{found};
 ghost use Rattle.see.specs.Apart.{instr};
-ghost use Rattle.see.specs.Parts.{LiesIn, token_in};
+ghost use Rattle.see.specs.Parts.{token_in};
 ghost use Rattle.see.specs.Places.{IsSketch, AreLed};
 ghost use Rattle.see.specs.Printing.{its_words};
 ghost use Rattle.see.specs.Rooms.{IsRoomFor};
-ghost use Rattle.see.specs.Seen.{TakesOne};
+ghost use Rattle.see.specs.Seen.{TakesOne, TakesText, TakesThere};
 ghost use Rattle.see.specs.declared.structures.Frame.{Frame};
 
 use crate::front::{Instruction, first_off};
@@ -64,10 +64,7 @@ fn take_pair(words: &mut Vec<Part>, w: u16) -> bool
 /// A text, by its place in the thread.
 fn take_text(words: &mut Vec<Part>, aborts: bool, place: usize, length: usize) -> bool
     requires words { vec_len words.old + 1 ≤ vec_capacity words.old }
-    ensures taken { (bytes text : List ℕ) (at here : ℕ) (begins : List ℕ) (frames : List Frame) →
-        take length (drop place bytes) ≡ text →
-        TakesOne bytes at here (IText aborts text)
-        words.old.items begins frames result words.new.items begins frames }
+    ensures taken { TakesText aborts place length words.old.items result words.new.items }
     ensures few { vec_len words.new ≤ vec_len words.old + 1 }
     ensures words { vec_capacity words.new ≡ vec_capacity words.old }
 {
@@ -103,8 +100,7 @@ fn take(
     requires start { at ≤ here }
     requires words { vec_len words.old + 2 ≤ vec_capacity words.old }
     requires frames { vec_len frames.old < vec_capacity frames.old }
-    ensures taken { (bytes : List ℕ) → here < at + length begins.old → LiesIn bytes (here - at) (instr flat.entry) →
-        TakesOne bytes at here (instr flat.entry)
+    ensures taken { TakesThere at here (instr flat.entry)
         words.old.items begins.old frames.old.items result words.new.items begins.new frames.new.items }
     ensures few { vec_len words.new + vec_len frames.new + sum begins.new ≤
         vec_len words.old + vec_len frames.old + sum begins.old + len (instr flat.entry) }

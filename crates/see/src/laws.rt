@@ -5,12 +5,12 @@ ghost use Rattle.colon_bodies.specs.Tokens.{Token};
 ghost use Rattle.colon_bodies.specs.Tree.{Definition};
 ghost use Rattle.see.specs.Naming.{IsReadable, first_fault};
 ghost use Rattle.see.specs.Printing.{its_words, text};
-ghost use Rattle.see.specs.Reading.{AreCells};
+ghost use Rattle.see.specs.ReadAgain.{AreCells};
 ghost use Rattle.see.specs.Seeing.{IsAgain, IsDefined, IsSeenIn};
 ghost use Rattle.see.specs.declared.refusal.SeeRefused.{SeeRefused};
 ghost use Rattle.see.specs.declared.refusal.SeeRefused.TheVariants.{OutOfMemory};
 
-/// Nothing is wrong with the words of a definition just where it is readable.
+/// Nothing is wrong with the words of a definition exactly if it is readable.
 #[tactic(auto, using(crate::proofs::Answered::readable, crate::proofs::Answered::faultless))]
 pub fn readable_law()
     ensures readable { (m : List ℕ) (l : ℕ) (name : List ℕ) (ws : List Token) → first_fault m l name ws ≡ None →

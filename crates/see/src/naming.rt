@@ -70,7 +70,7 @@ pub fn is_quotable(text: &[u8]) -> bool
     is_free_of(text, b'"')
 }
 
-/// The header that the search of a name gives, where the one at `hidden` counts as hidden, if this is its compilation
+/// The header that the search of a name gives, if the one at `hidden` counts as hidden, if this is its compilation
 /// address.
 #[tactic(auto, unfolding(crate::specs::Naming::is_meant))]
 pub fn meant(memory: &Memory, hidden: u16, name: &[u8], w: u16) -> Option<u16>

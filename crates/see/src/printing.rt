@@ -95,7 +95,7 @@ fn write_forced(out: &mut Vec<u8>, name: &[u8])
     write_word(out, name);
 }
 
-/// Writes a name, after [COMPILE] where it is forced.
+/// Writes a name, after [COMPILE] if it is forced.
 fn write_called(out: &mut Vec<u8>, forced: bool, name: &[u8])
     requires { vec_len out.old + 11 + length name.now ≤ vec_capacity out.old }
     ensures written { out.new.items ≡ out.old.items ++ spaced_behind (called forced name.now) }
@@ -109,7 +109,7 @@ fn write_called(out: &mut Vec<u8>, forced: bool, name: &[u8])
     }
 }
 
-/// Writes a name that means the header at `k`, after [COMPILE] where that is immediate or the name is spelled as a keyword.
+/// Writes a name that means the header at `k`, after [COMPILE] if that is immediate or the name is spelled as a keyword.
 fn write_meant(out: &mut Vec<u8>, memory: &Memory, k: u16, name: &[u8])
     requires { vec_len out.old + 11 + length name.now ≤ vec_capacity out.old }
     ensures written { out.new.items ≡ out.old.items ++ spaced_behind

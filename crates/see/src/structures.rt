@@ -1,11 +1,9 @@
 //! Finds the structures again. The words have no BEGINs: how many of them belong at each place in the thread is counted.
 
-ghost use Rattle.std.specs.Prelude.{◌≡◌, ◌↔◌, IsTrue, IsSome, true, ◌≤◌, ◌<◌, ◌^◌, ◌+◌, ◌-◌, ℕ, List, length, map, sum, vec_len, vec_capacity, Some};
-ghost use Rattle.colon_bodies.specs.Tree.{Body};
-ghost use Rattle.colon_bodies.specs.Structures.{Frames, In, else_at, again_at, repeat_at, split, shut};
+ghost use Rattle.std.specs.Prelude.{◌≡◌, ◌↔◌, IsTrue, IsSome, true, ◌≤◌, ◌<◌, ◌^◌, ◌+◌, ◌-◌, ℕ, List, length, sum, vec_len, vec_capacity, Some};
+ghost use Rattle.colon_bodies.specs.Structures.{Frames, else_at};
 ghost use Rattle.colon_bodies.specs.Instructions.{IQuery, IBranch, IDo, ILoop, IDoes};
-ghost use Rattle.see.specs.Parts.{token_in};
-ghost use Rattle.see.specs.Seen.{Seen, Takes, TakesOne, frames_of, top_frame, beneath, start, begins_at, EndsHere};
+ghost use Rattle.see.specs.Seen.{Closes, Takes, TakesAgain, TakesOne, TakesRepeat, frames_of, top_frame, beneath, start, begins_at, EndsHere};
 ghost use Rattle.see.specs.declared.structures.Frame.{Frame};
 
 use crate::parts::Part;
@@ -116,9 +114,7 @@ fn take_again(
     requires reach { here + 4 < 2 ^ 64 }
     requires back { to ≤ here }
     requires words { vec_len words.old < vec_capacity words.old }
-    ensures taken { (bytes : List ℕ) (frames : List Frame) → here < at + length begins.old →
-        Takes bytes at here (here + 4) (λ f c. again_at f (split c (here - to)))
-        words.old.items begins.old frames result words.new.items begins.new frames }
+    ensures taken { TakesAgain at here to words.old.items begins.old result words.new.items begins.new }
     ensures few { vec_len words.new + sum begins.new ≤ vec_len words.old + sum begins.old + 2 }
     ensures words { vec_capacity words.new ≡ vec_capacity words.old }
 {
@@ -139,11 +135,8 @@ fn take_repeat(
     to: usize,
 ) -> bool
     requires words { vec_len words.old < vec_capacity words.old }
-    ensures taken { (bytes : List ℕ) (here : ℕ) (f g : Frames) (c d : Body) →
-        Seen at f c here (map (token_in bytes) words.old.items) begins.old frames.old.items → here < at + length begins.old →
-        here + 4 < 2 ^ 64 → to < start at f → repeat_at f c here to ≡ Some (In g d) →
-        (result ≡ true) × Seen at g d (here + 4)
-        (map (token_in bytes) words.new.items) begins.new frames.new.items }
+    ensures taken { TakesRepeat at to
+        words.old.items begins.old frames.old.items result words.new.items begins.new frames.new.items }
     ensures few { vec_len words.new + vec_len frames.new + sum begins.new ≤ vec_len words.old + vec_len frames.old + sum begins.old + 2 }
     ensures words { vec_capacity words.new ≡ vec_capacity words.old }
     ensures frames { vec_capacity frames.new ≡ vec_capacity frames.old }
@@ -282,9 +275,7 @@ fn ends_here(frames: &Vec<Frame>, here: usize) -> bool
 /// Ends the structures that end here.
 pub fn close_here(words: &mut Vec<Part>, frames: &mut Vec<Frame>, here: usize)
     requires { vec_len words.old + vec_len frames.old ≤ vec_capacity words.old }
-    ensures closed { (bytes : List ℕ) (at : ℕ) (begins : List ℕ) (f g : Frames) (c d : Body) →
-        Seen at f c here (map (token_in bytes) words.old.items) begins frames.old.items → shut f c here ≡ In g d →
-        Seen at g d here (map (token_in bytes) words.new.items) begins frames.new.items }
+    ensures closed { Closes here words.old.items frames.old.items words.new.items frames.new.items }
     ensures few { vec_len words.new + vec_len frames.new ≡ vec_len words.old + vec_len frames.old }
     ensures words { vec_capacity words.new ≡ vec_capacity words.old }
     ensures frames { vec_capacity frames.new ≡ vec_capacity frames.old }

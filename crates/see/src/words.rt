@@ -16,7 +16,7 @@ use crate::thread_room::ThreadRoom;
 
 /// Finds the words of a thread that is at `at`, and `;`, if the bytes are the thread of a plain definition: they are then in the
 /// room, as all words. `runtime` holds the compilation address of each control primitive k at k, 0 if it has none; none is
-/// found where two of these addresses from 5 on are equal and not 0.
+/// found if two of these addresses from 5 on are equal and not 0.
 pub fn thread_words(room: &mut ThreadRoom, bytes: &[u8], runtime: &[u16], at: u16) -> bool
     requires reach { at + length bytes.now < 2 ^ 16 }
     requires controls { 28 ≤ length runtime.now }

@@ -222,7 +222,7 @@ cut_obeyed whole kind body count s t c c' r o o' few h = record {
   served_is = h.served_is;
 }
 
--- equal bytes have equal parts where the first ones are as long
+-- equal bytes have equal parts if the first ones are as long
 split : (xs ys us vs : List ℕ) → length xs ≡ length ys → xs ++ us ≡ ys ++ vs → (xs ≡ ys) × (us ≡ vs)
 split [] [] us vs n e = (refl, e)
 split [] (y ∷ ys) us vs n e = grind arith

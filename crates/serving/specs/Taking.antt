@@ -116,6 +116,11 @@ abbrev pub HasServedNext : Option Ending → (count : ℕ) → (old new : State)
 HasServedNext None count old new calls calls' reads reads' sent sent' = HasServedOne count old new calls calls' reads reads' sent sent'
 HasServedNext (Some how) count old new calls calls' reads reads' sent sent' = HasEnded how count old new calls calls' reads reads' sent sent'
 
+-- so after a frame of this kind and body, whatever was read before it
+abbrev pub HasServedFrame : Option Ending → (count kind : ℕ) → (body : List ℕ) → (old new : State) → (calls calls' : List DeviceCall) → (sent sent' : Option (List ℕ)) → Type 0
+HasServedFrame ending count kind body old new calls calls' sent sent' =
+    (reads : List (Option ℕ)) → HasServedNext ending count old new calls calls' reads (reads ++ as_given (frame kind body)) sent sent'
+
 -- the mark of an end rises just if that end failed; if the writer did not, all that was sent was passed on
 abbrev pub MarksWriter : Option Ending → (failed failed' passed' : Bool) → Type 0
 MarksWriter (Some ending.OutputFault) failed failed' passed' = failed' ≡ true

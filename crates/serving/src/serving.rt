@@ -1,9 +1,7 @@
 //! Requests of a reader are served, one after another.
 
-ghost use Rattle.std.specs.Prelude.{◌≡◌, ◌≤◌, ◌<◌, ◌++◌, true, false, Bool, ℕ, List, Option, Some, None, vec_capacity, length};
-ghost use Rattle.inner_interpreter.specs.Reads.{as_given};
-ghost use Rattle.serving.specs.Frames.{frame};
-ghost use Rattle.serving.specs.Taking.{HasServed, HasServedNext, KeepsWriter, MarksReader, MarksWriter};
+ghost use Rattle.std.specs.Prelude.{◌≤◌, ◌<◌, Bool, Option, Some, None, vec_capacity, length};
+ghost use Rattle.serving.specs.Taking.{HasServed, HasServedFrame, HasServedNext, KeepsWriter, MarksReader, MarksWriter};
 
 use crate::listing::Room;
 use crate::obeying::obey;
@@ -38,8 +36,8 @@ fn serve_one<W: Output, D: Device>(
     writer: &mut W,
 ) -> Option<Ending>
     requires { length body.now < 65536 }
-    ensures served { (reads : List (Option ℕ)) → HasServedNext result count machine.old machine.new (D.calls device.old)
-        (D.calls device.new) reads (reads ++ as_given (frame kind body.now)) (W.sent writer.old) (W.sent writer.new) }
+    ensures served { HasServedFrame result count kind body.now machine.old machine.new (D.calls device.old)
+        (D.calls device.new) (W.sent writer.old) (W.sent writer.new) }
     ensures writer { MarksWriter result (W.failed writer.old) (W.failed writer.new) (W.passed writer.new) }
     ensures reader { (failed : Bool) → MarksReader result failed failed }
 {

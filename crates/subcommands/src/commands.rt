@@ -2,7 +2,7 @@
 
 ghost use Rattle.std.specs.Prelude.{◌≡◌, ◌≢◌, ◌⊎◌, ◌<◌, codes, decimal, false, true, Some, IsNone, IsSome, IfSome, MatchOption, OnOk};
 ghost use Rattle.std.specs.Io.KnownBytes.{Appends};
-ghost use Rattle.image_builder.specs.Sources.{ForDisks};
+ghost use Rattle.image_builder.specs.Sources.{ForDevice};
 ghost use Rattle.block_buffers.specs.Disks.{Disk};
 ghost use Rattle.block_buffers.specs.Likeness.{IsLike};
 ghost use Rattle.subcommands.specs.Kernel.{filled, blocks_of};
@@ -223,10 +223,10 @@ pub fn do_build<W: Output, D: Device>(
     ensures read { IfSome result.file (λ file.
         IsFileOfRead buffers (D.block_count device.old) from to file (D.calls device.old) (D.calls device.new)) }
     // For each disk as which the device did, the image is that of this disk's screens.
-    ensures file { ForDisks (D.block_count device.old) (D.calls device.old) (D.calls device.new) (λ d done.
+    ensures file { ForDevice D.Device device.old device.new (λ d done.
         IfSome result.file (IsBuiltFile buffers d from to done)) }
     // Whether a line can be printed or not, the device is as building the screens, or refusing them, leaves it.
-    ensures device { ForDisks (D.block_count device.old) (D.calls device.old) (D.calls device.new) (λ d done.
+    ensures device { ForDevice D.Device device.old device.new (λ d done.
         IsBuilding buffers d from to done) }
     // A device that reports its disk did as that disk.
     ensures like { (d : Disk) → D.disk device.old ≡ Some d →
@@ -235,7 +235,7 @@ pub fn do_build<W: Output, D: Device>(
     ensures told { W.failed writer.new ≡ false →
         IfSome result.file (λ file. IsTold file.items (W.sent writer.old) (W.sent writer.new)) }
     ensures refused { W.failed writer.new ≡ false → IsNone result.file →
-        ForDisks (D.block_count device.old) (D.calls device.old) (D.calls device.new) (λ d done.
+        ForDevice D.Device device.old device.new (λ d done.
         EndsUnbuilt buffers d from to done result.status (W.sent writer.old) (W.sent writer.new)) }
     // If a line can't be printed, there is no file.
     ensures passed { W.failed writer.new ≡ false → W.passed writer.new ≡ true }

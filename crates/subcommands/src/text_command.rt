@@ -5,7 +5,7 @@ ghost use Rattle.std.specs.Io.KnownBytes.{Appends};
 ghost use Rattle.block_buffers.specs.Calls.{KeepsBlocks};
 ghost use Rattle.block_buffers.specs.Disks.{Disk};
 ghost use Rattle.block_buffers.specs.Likeness.{IsLike};
-ghost use Rattle.image_builder.specs.Sources.{ForDisks};
+ghost use Rattle.image_builder.specs.Sources.{ForDevice};
 ghost use Rattle.device_text.specs.declared.pages.PageCause.{PageCause};
 ghost use Rattle.screen_text.specs.Reading.{read};
 ghost use Rattle.subcommands.specs.Kernel.{blanks};
@@ -103,7 +103,7 @@ pub fn do_text<W: Output, D: Device>(
         (W.sent writer.old) (W.sent writer.new) }
     // For each disk as which the device did, the text, or the refusal, is that of this disk's screens.
     ensures printed { W.failed writer.new ≡ false →
-        ForDisks (D.block_count device.old) (D.calls device.old) (D.calls device.new)
+        ForDevice D.Device device.old device.new
         (λ d _. EndsText d from to result.status (W.sent writer.old) (W.sent writer.new)) }
     // A device that reports its disk did as that disk.
     ensures like { (d : Disk) → D.disk device.old ≡ Some d →

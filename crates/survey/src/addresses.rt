@@ -113,7 +113,7 @@ fn is_address(place: Place<'_>, named: &[Named<'_>]) -> bool {
         || matches!(value(place.word, place.base), Some(number) if number.above_0() > 255)
 }
 
-/// The word that has the address, where the one before an access may compute it from the two before.
+/// The word that has the address, if the one before an access may compute it from the two before.
 fn addressing<'a>(source: &Source<'a>, index: usize, named: &[Named<'_>]) -> Option<Place<'a>> {
     let place = source.at(index);
     if !has(b"+ - OR", place.word) {

@@ -1,15 +1,16 @@
 //! `survey` over the files that the command line names.
 #![tactic(auto)]
 
-ghost use Rattle.std.specs.Prelude.{◌≡◌, ◌⊎◌, false, true, IfErr, IfOk, IsNone};
-ghost use Rattle.named_files.specs.Done.{IsPassedOn, Refuses, done, status_of};
+ghost use Rattle.std.specs.Prelude.{◌≡◌, ◌⊎◌, false, true, IsNone};
+ghost use Rattle.named_files.specs.Done.{IsPassedOn, Refuses, status_of};
+ghost use Rattle.named_files.specs.Begun.{Began, NotBegun};
 ghost use Rattle.subcommands.specs.Lines.{OfImageFile, Prints, PrintsNoImage};
 ghost use Rattle.survey_subcommand.specs.Surveyed.{EndsSurveyed, Surveys, survey_steps};
 
 use forth_names::forth_names;
 use inner_interpreter::{Output, send_all};
 use memory::Memory;
-use named_files::Files;
+use named_files::Guards;
 use std::alloc::{AllocError, Global};
 use subcommands::{Ended, end_with, print_out_of_memory, refuse_image};
 use survey::{Asked, survey};
@@ -96,15 +97,15 @@ fn do_survey<W: Output>(
 }
 
 /// Reports on the screens that `survey` names. If it cannot begin, that is printed, and the status is the error.
-pub fn survey_screens<F: Files, W: Output>(
+pub fn survey_screens<F: Guards, W: Output>(
     files: &mut F,
     writer: &mut W,
     surveyed: Surveyed<'_>,
 ) -> Result<u8, u8>
-    ensures surveyed { IfOk result (λ status. Surveys surveyed.entry.image.now surveyed.entry.blocks.now status (W.failed writer.new)
-        (done (F.log files.old) (W.sent writer.old)) (done (F.log files.new) (W.sent writer.new))) }
-    ensures refused { IfErr result (λ status. Refuses (survey_steps surveyed.entry.image.now surveyed.entry.blocks.now) status
-        (done (F.log files.old) (W.sent writer.old)) (done (F.log files.new) (W.sent writer.new))) }
+    ensures surveyed { Began F.log W.Output files.old files.new writer.old writer.new result
+        (Surveys surveyed.entry.image.now surveyed.entry.blocks.now) }
+    ensures refused { NotBegun F.log W.Output files.old files.new writer.old writer.new result
+        (Refuses (survey_steps surveyed.entry.image.now surveyed.entry.blocks.now)) }
     ensures cut { W.failed writer.old ≡ false → W.failed writer.new ≡ true → status_of result ≡ 5 }
     ensures passed { IsPassedOn (status_of result) (W.failed writer.new) (W.passed writer.new) (W.sent writer.old) (W.sent writer.new) }
 {

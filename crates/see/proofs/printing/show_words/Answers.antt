@@ -3,7 +3,7 @@ use Rattle.std.proofs.Common.{◌≡◌, ◌++◌, [], ◌∷◌, Some, None, su
 use Rattle.colon_bodies.specs.Tokens.{laid_by}
 use Rattle.source_words.specs.Spaced.{spaced_behind}
 use Rattle.see.specs.Naming.{words_fault}
-use Rattle.see.specs.Reading.{AreCells}
+use Rattle.see.specs.ReadAgain.{AreCells}
 use Rattle.see.specs.Printing.{all_printed}
 use Rattle.colon_bodies.specs.declared.words.BodyWord.TheVariants as w
 use Rattle.see.specs.Parts.{token_in}

@@ -5,7 +5,7 @@ use Rattle.colon_bodies.specs.Tokens.{laid}
 use Rattle.source_words.specs.Spaced.{spaced_behind}
 use Rattle.see.specs.Parts.{token_in}
 use Rattle.see.specs.Naming.{words_fault}
-use Rattle.see.specs.Reading.{AreCells}
+use Rattle.see.specs.ReadAgain.{AreCells}
 use Rattle.see.specs.Printing.{all_printed}
 use Rattle.see.proofs.printing.show_words.Given as goal
 
