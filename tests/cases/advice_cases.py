@@ -50,8 +50,8 @@ def in_c(calls: Any, one: Case, room: int = ROOM) -> str:
     if status:
         is_left = place.raw == FILLED * ROOM
         return f"status {status}, {size.value}" if is_left else f"status {status}, and the room was written"
-    is_beside = place.raw[size.value:] == FILLED * (ROOM - size.value)
-    return said(place.raw[:size.value].decode()) if is_beside else "more than the answer was written"
+    is_beside = place.raw[size.value :] == FILLED * (ROOM - size.value)
+    return said(place.raw[: size.value].decode()) if is_beside else "more than the answer was written"
 
 
 def try_program(program: str, must: Callable[[object, str], None]) -> int:

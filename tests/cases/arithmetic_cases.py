@@ -12,7 +12,7 @@ import argparse
 from itertools import product
 from pathlib import Path
 import sys
-from typing import Iterator, Optional, Tuple, Union
+from typing import Callable, Iterator, List, Optional, Tuple, Union
 
 CELLS = [-32768, -1, 0, 1, 32767]
 DOUBLES = [-2147483648, -65536, -1, 0, 1, 65535, 65536, 2147483647]
@@ -81,25 +81,18 @@ def flag(is_true: bool) -> int:
     return -1 if is_true else 0
 
 
-def divisions() -> Iterator[str]:
-    for n, m in product(CELLS, CELLS):
-        given, result = cells(n, m), floored(n, m)
-        yield leaves(51, "/", given, result and result[1])
-        yield leaves(52, "MOD", given, result and result[0])
-        yield leaves(53, "/MOD", given, result and cells(*result))
+def doubles(*numbers: int) -> str:
+    """Doubles as cells."""
+    return cells(*(half for number in numbers for half in halves(number)))
 
 
-def scaled_divisions() -> Iterator[str]:
-    for n1, n2, m in product(CELLS, CELLS, CELLS):
-        given, result = cells(n1, n2, m), floored(n1 * n2, m)
-        yield leaves(54, "*/", given, result and result[1])
-        yield leaves(55, "*/MOD", given, result and cells(*result))
+def double_of(low: int, high: int) -> int:
+    """The signed double of two cells."""
+    return wrap(unsigned(low) + 65536 * high, 32)
 
 
-def unsigned_divisions() -> Iterator[str]:
-    for low, high, m in product(CELLS, CELLS, CELLS):
-        result = unsigned_division(unsigned(low) + 65536 * unsigned(high), unsigned(m))
-        yield leaves(79, "UM/MOD", cells(low, high, m), result and cells(*result))
+def both(found: Optional[Tuple[int, int]]) -> Optional[str]:
+    return found and cells(*found)
 
 
 def loops() -> Iterator[str]:
@@ -118,89 +111,78 @@ def loops() -> Iterator[str]:
                 yield f"10 (LOOP) ( -- )\n{change}"
 
 
-def comparisons() -> Iterator[str]:
-    for n1, n2 in product(CELLS, CELLS):
-        given = cells(n1, n2)
-        yield leaves(70, "=", given, flag(n1 == n2))
-        yield leaves(71, "<>", given, flag(n1 != n2))
-        yield leaves(72, "<", given, flag(n1 < n2))
-        yield leaves(73, ">", given, flag(n1 > n2))
-        yield leaves(74, "U<", given, flag(unsigned(n1) < unsigned(n2)))
+Row = Tuple[int, str, Callable[..., Optional[Union[int, str]]]]
+DIVISIONS: List[Row] = [
+    (51, "/", lambda n, m: (it := floored(n, m)) and it[1]),
+    (52, "MOD", lambda n, m: (it := floored(n, m)) and it[0]),
+    (53, "/MOD", lambda n, m: both(floored(n, m))),
+]
+SCALED: List[Row] = [
+    (54, "*/", lambda n1, n2, m: (it := floored(n1 * n2, m)) and it[1]),
+    (55, "*/MOD", lambda n1, n2, m: both(floored(n1 * n2, m))),
+]
+UNSIGNED: List[Row] = [(79, "UM/MOD", lambda low, high, m: both(unsigned_division(unsigned(low) + 65536 * unsigned(high), unsigned(m))))]
+COMPARISONS: List[Row] = [
+    (70, "=", lambda n1, n2: flag(n1 == n2)),
+    (71, "<>", lambda n1, n2: flag(n1 != n2)),
+    (72, "<", lambda n1, n2: flag(n1 < n2)),
+    (73, ">", lambda n1, n2: flag(n1 > n2)),
+    (74, "U<", lambda n1, n2: flag(unsigned(n1) < unsigned(n2))),
+]
+EXTREMES: List[Row] = [(64, "MIN", min), (65, "MAX", max)]
+SUMS: List[Row] = [
+    (48, "+", lambda n1, n2: wrap(n1 + n2, 16)),
+    (49, "-", lambda n1, n2: wrap(n1 - n2, 16)),
+    (50, "*", lambda n1, n2: wrap(n1 * n2, 16)),
+    (78, "UM*", lambda n1, n2: doubles(unsigned(n1) * unsigned(n2))),
+]
+SINGLES: List[Row] = [
+    (62, "NEGATE", lambda n: wrap(-n, 16)),
+    (63, "ABS", lambda n: wrap(abs(n), 16)),
+    (61, "2/", lambda n: n // 2),
+    (60, "2*", lambda n: wrap(2 * n, 16)),
+]
+DOUBLE_SUMS: List[Row] = [(80, "D+", lambda d1, d2: doubles(d1 + d2)), (81, "D-", lambda d1, d2: doubles(d1 - d2))]
+DOUBLE_EXTREMES: List[Row] = [(85, "DMIN", lambda d1, d2: doubles(min(d1, d2))), (86, "DMAX", lambda d1, d2: doubles(max(d1, d2)))]
+DOUBLE_COMPARISONS: List[Row] = [
+    (87, "D=", lambda d1, d2: flag(d1 == d2)),
+    (89, "D<", lambda d1, d2: flag(d1 < d2)),
+    (90, "DU<", lambda d1, d2: flag(unsigned(d1, 32) < unsigned(d2, 32))),
+]
+SINGLE_DOUBLES: List[Row] = [
+    (82, "DNEGATE", lambda *halves_of: doubles(-double_of(*halves_of))),
+    (83, "DABS", lambda *halves_of: doubles(abs(double_of(*halves_of)))),
+    (84, "D2/", lambda *halves_of: doubles(double_of(*halves_of) // 2)),
+    (88, "D0=", lambda *halves_of: flag(double_of(*halves_of) == 0)),
+]
 
 
-def extremes() -> Iterator[str]:
-    for n1, n2 in product(CELLS, CELLS):
-        yield leaves(64, "MIN", cells(n1, n2), min(n1, n2))
-        yield leaves(65, "MAX", cells(n1, n2), max(n1, n2))
-
-
-def sums() -> Iterator[str]:
-    for n1, n2 in product(CELLS, CELLS):
-        given = cells(n1, n2)
-        yield leaves(48, "+", given, wrap(n1 + n2, 16))
-        yield leaves(49, "-", given, wrap(n1 - n2, 16))
-        yield leaves(50, "*", given, wrap(n1 * n2, 16))
-        yield leaves(78, "UM*", given, cells(*halves(unsigned(n1) * unsigned(n2))))
-
-
-def single_cells() -> Iterator[str]:
-    for n in CELLS:
-        yield leaves(62, "NEGATE", n, wrap(-n, 16))
-        yield leaves(63, "ABS", n, wrap(abs(n), 16))
-        yield leaves(61, "2/", n, n // 2)
-        yield leaves(60, "2*", n, wrap(2 * n, 16))
-
-
-def double_sums() -> Iterator[str]:
-    for d1, d2 in product(DOUBLES, DOUBLES):
-        given = cells(*halves(d1), *halves(d2))
-        yield leaves(80, "D+", given, cells(*halves(d1 + d2)))
-        yield leaves(81, "D-", given, cells(*halves(d1 - d2)))
-
-
-def double_extremes() -> Iterator[str]:
-    for d1, d2 in product(DOUBLES, DOUBLES):
-        given = cells(*halves(d1), *halves(d2))
-        yield leaves(85, "DMIN", given, cells(*halves(min(d1, d2))))
-        yield leaves(86, "DMAX", given, cells(*halves(max(d1, d2))))
-
-
-def double_comparisons() -> Iterator[str]:
-    for d1, d2 in product(DOUBLES, DOUBLES):
-        given = cells(*halves(d1), *halves(d2))
-        yield leaves(87, "D=", given, flag(d1 == d2))
-        yield leaves(89, "D<", given, flag(d1 < d2))
-        yield leaves(90, "DU<", given, flag(unsigned(d1, 32) < unsigned(d2, 32)))
-
-
-def single_doubles() -> Iterator[str]:
-    for low, high in product(CELLS, CELLS):
-        d, given = wrap(unsigned(low) + 65536 * high, 32), cells(low, high)
-        yield leaves(82, "DNEGATE", given, cells(*halves(-d)))
-        yield leaves(83, "DABS", given, cells(*halves(abs(d))))
-        yield leaves(84, "D2/", given, cells(*halves(d // 2)))
-        yield leaves(88, "D0=", given, flag(d == 0))
+def each(rows: List[Row], values: List[int], count: int, given: Callable[..., str] = cells) -> Iterator[str]:
+    """The lines of rows that take so many of these values, as they are given."""
+    for operands in product(values, repeat=count):
+        for number, name, does in rows:
+            yield leaves(number, name, given(*operands), does(*operands))
 
 
 GROUPS = [
-    ("Floored quotients and remainders.", divisions),
-    ("The same of a product.", scaled_divisions),
-    ("Quotients and remainders without signs.", unsigned_divisions),
-    ("Loops: where they go on, at 700, and where they end, at 302.", loops),
-    ("Comparisons.", comparisons),
-    ("The lesser and the greater.", extremes),
-    ("Sums, differences and products.", sums),
-    ("Of one cell: it negated, its amount, its half and its double.", single_cells),
-    ("Sums and differences of doubles.", double_sums),
-    ("The lesser and the greater of doubles.", double_extremes),
-    ("Comparisons of doubles.", double_comparisons),
-    ("Of one double: it negated, its amount, its half; whether it is 0.", single_doubles),
+    ("Floored quotients and remainders.", each(DIVISIONS, CELLS, 2)),
+    ("The same of a product.", each(SCALED, CELLS, 3)),
+    ("Quotients and remainders without signs.", each(UNSIGNED, CELLS, 3)),
+    ("Loops: where they go on, at 700, and where they end, at 302.", loops()),
+    ("Comparisons.", each(COMPARISONS, CELLS, 2)),
+    ("The lesser and the greater.", each(EXTREMES, CELLS, 2)),
+    ("Sums, differences and products.", each(SUMS, CELLS, 2)),
+    ("Of one cell: it negated, its amount, its half and its double.", each(SINGLES, CELLS, 1)),
+    ("Sums and differences of doubles.", each(DOUBLE_SUMS, DOUBLES, 2, doubles)),
+    ("The lesser and the greater of doubles.", each(DOUBLE_EXTREMES, DOUBLES, 2, doubles)),
+    ("Comparisons of doubles.", each(DOUBLE_COMPARISONS, DOUBLES, 2, doubles)),
+    ("Of one double: it negated, its amount, its half; whether it is 0.", each(SINGLE_DOUBLES, CELLS, 2)),
 ]
 
 
 def main() -> int:
     argparse.ArgumentParser(description=f"Writes {TARGET.name}: cases of the arithmetic rows, computed here.").parse_args()
-    groups = (f"\n\\ {text}\n" + "".join(f"{case}\n" for case in cases()) for text, cases in GROUPS)
+    groups = (f"\n\\ {text}\n" + "".join(f"{case}\n" for case in found) for text, found in GROUPS)
     TARGET.write_text(HEAD + "".join(groups), encoding="utf-8")
     return 0
 

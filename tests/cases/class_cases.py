@@ -12,12 +12,12 @@ import sys
 from itertools import zip_longest
 from typing import Any, Callable, Dict, Iterator, List, NamedTuple, Tuple
 
-import course_answers
 import teaching_runs
 
 ROOT = pathlib.Path(__file__).resolve().parents[2]
 sys.path += [str(ROOT / "teaching"), str(ROOT / "commands")]
 
+import course_lessons  # noqa: E402
 import judged  # noqa: E402
 from served import image as served  # noqa: E402
 
@@ -53,14 +53,13 @@ def with_screens(course: bytes, screens: Screens) -> bytes:
     """The course's blocks with other screens."""
     blocks = bytearray(course)
     for number, lines in screens.items():
-        blocks[number * SIZE:(number + 1) * SIZE] = page(lines)
+        blocks[number * SIZE : (number + 1) * SIZE] = page(lines)
     return bytes(blocks)
 
 
 def solved() -> Screens:
     """The screens of the solutions."""
-    pages = (ROOT / "screens/course/solutions.txt").read_text(encoding="ascii").split("% screen ")[1:]
-    return {int(one.split("\n", 1)[0]): one.splitlines()[1:] for one in pages}
+    return {course_lessons.FIRST + it.number: it.solution for it in course_lessons.read() if it.solution}
 
 
 LESSONS = len(solved())
@@ -121,18 +120,16 @@ def pupils(course: bytes) -> List[Pupil]:
     return [*of_file(course), *odd_files(course)]
 
 
-def answered(course: bytes) -> Iterator[Tuple[course_answers.Answer, bytes]]:
-    """What pupils write (tests/cases/course_answers.txt), each as the course's blocks with this answer."""
-    solutions = course_answers.solutions()
-    for answer in course_answers.answers():
-        lines = course_answers.screen(answer, solutions).splitlines()[1:]
-        yield answer, with_screens(course, {answer.lesson + 20: lines})
+def answered(course: bytes) -> Iterator[Tuple[int, course_lessons.Answer, bytes]]:
+    """What pupils write (screens/course/lessons.txt), each with its lesson, and as the course's blocks with this answer."""
+    for lesson in course_lessons.read():
+        for answer in lesson.answers:
+            yield lesson.number, answer, with_screens(course, {course_lessons.FIRST + lesson.number: answer.lines})
 
 
 def compared(cells: List[str], got: List[str]) -> List[str]:
     """What a row has, where a cell that is only not right is so written."""
-    return [NOT_RIGHT if wanted == NOT_RIGHT and not one.startswith(("right", "empty")) else one
-            for wanted, one in zip_longest(cells, got, fillvalue="")]
+    return [NOT_RIGHT if wanted == NOT_RIGHT and not one.startswith(("right", "empty")) else one for wanted, one in zip_longest(cells, got, fillvalue="")]
 
 
 def try_rows(course: bytes, row: Callable[[Pupil], List[str]], must: Must) -> int:
@@ -142,11 +139,10 @@ def try_rows(course: bytes, row: Callable[[Pupil], List[str]], must: Must) -> in
         got = compared(pupil.cells, row(pupil))
         must(got == pupil.cells, f"the row of {pupil.name}: {got}")
         count += 1
-    for answer, data in answered(course):
+    for lesson, answer, data in answered(course):
         got = row(Pupil("answer.blk", data, []))
-        others = [cell for number, cell in enumerate(got, 1) if number != answer.lesson and cell != "empty"]
-        must(len(got) == LESSONS and not others and (got[answer.lesson - 1] == "right") == answer.is_right,
-             f"lesson {answer.lesson}, {answer.title}: {got}")
+        others = [cell for number, cell in enumerate(got, 1) if number != lesson and cell != "empty"]
+        must(len(got) == LESSONS and not others and (got[lesson - 1] == "right") == answer.is_right, f"lesson {lesson}, {answer.title}: {got}")
         count += 1
     return count
 
@@ -244,8 +240,8 @@ def check_class(tree: teaching_runs.Tree) -> None:
         (room / pupil.name).write_bytes(pupil.data)
     started = worked()
     files = [str(room / pupil.name) for pupil in class_of]
-    done = subprocess.run(["./forth", "class", "--csv", "--seconds", "200", "--html", "class.html", *files, str(room / "nobody.blk"), str(room)], cwd=tree.room,
-                          stdout=subprocess.PIPE, stderr=subprocess.PIPE, check=False)
+    words = ["./forth", "class", "--csv", "--seconds", "200", "--html", "class.html", *files, str(room / "nobody.blk"), str(room)]
+    done = subprocess.run(words, cwd=tree.room, capture_output=True, check=False)
     took = worked() - started
     tree.cases.same(f"the status of a class with files that cannot be checked: {done.stderr.decode()[-300:]}", 1, done.returncode)
     tree.cases.same(f"a class of {len(files)} files takes {took:.1f} seconds of processor time, less than {SECONDS}", True, took < SECONDS)
@@ -278,26 +274,19 @@ def check_row(tree: teaching_runs.Tree, pupil: Pupil, found: List[str]) -> None:
 
 
 def check_answers(tree: teaching_runs.Tree, course: bytes) -> None:
-    """What pupils write (tests/cases/course_answers.txt) is right or not in a class, too: the file of pupil N has the Nth answer to each lesson."""
-    room = tree.room / "answers"
+    """What pupils write (screens/course/lessons.txt) is right or not in a class, too: the file of pupil N has the Nth answer to each lesson."""
+    room, lessons = tree.room / "answers", course_lessons.read()
     room.mkdir()
-    given: Dict[int, List[Tuple[course_answers.Answer, bytes]]] = {}
-    for answer, blocks in answered(course):
-        given.setdefault(answer.lesson, []).append((answer, blocks))
-    for number in range(max(map(len, given.values()))):
-        made = bytearray(course)
-        for lesson, answers in given.items():
-            if number < len(answers):
-                begin = (lesson + 20) * SIZE
-                made[begin:begin + SIZE] = answers[number][1][begin:begin + SIZE]
-        (room / f"pupil{number}.blk").write_bytes(bytes(made))
+    for number in range(max(len(lesson.answers) for lesson in lessons)):
+        answered_by = {course_lessons.FIRST + it.number: it.answers[number].lines for it in lessons if number < len(it.answers)}
+        (room / f"pupil{number}.blk").write_bytes(with_screens(course, answered_by))
     status, said = tree.tool("class", "--csv", *sorted(str(path) for path in room.iterdir()))
     tree.cases.same("the status of a class with an answer to each lesson", 0, status)
     rows = rows_of(said)
-    for lesson, answers in given.items():
-        for number, (answer, _) in enumerate(answers):
-            got = rows[f"pupil{number}"][lesson - 1]
-            tree.cases.same(f"lesson {lesson}, {answer.title}: {got}", answer.is_right, got == "right")
+    for lesson in lessons:
+        for number, answer in enumerate(lesson.answers):
+            got = rows[f"pupil{number}"][lesson.number - 1]
+            tree.cases.same(f"lesson {lesson.number}, {answer.title}: {got}", answer.is_right, got == "right")
 
 
 def check_forms(tree: teaching_runs.Tree, room: pathlib.Path, count: int) -> None:
@@ -325,12 +314,15 @@ def check_course_options(tree: teaching_runs.Tree) -> None:
     status, said = tree.tool("course", "--hints", "7")
     tree.cases.same("the words of the hints of lesson 7", (0, ["DIGITS", "COUNTDOWN"]), (status, [line.split(":")[0] for line in said.splitlines()]))
     tree.cases.same("the course's text", (0, (ROOT / "screens/course/course.txt").read_text(encoding="ascii")), tree.tool("course", "--text"))
-    for words, wanted in ((("--hints", "15"), 1), (("--hints", "x"), 1), (("--solutions",), 2), (("--hint", "3"), 2), (("--sheets", "15"), 1)):
+    for words, wanted in ((("--hints", "99"), 1), (("--hints", "x"), 1), (("--solutions",), 2), (("--hint", "3"), 2), (("--sheets", "99"), 1)):
         tree.cases.same(f"the status of course {' '.join(words)}", wanted, tree.tool("course", *words)[0])
     status, said = tree.tool("course", "--sheets", "-o", "all.html")
     made = (tree.room / "all.html").read_text(encoding="utf-8")
-    tree.cases.same(f"pages of all lessons: {said}", (0, LESSONS, LESSONS, 16 * LESSONS),
-                    (status, made.count("<article>"), made.count("Name <span></span> Date <span></span>"), made.count("<tr>")))
+    tree.cases.same(
+        f"pages of all lessons: {said}",
+        (0, LESSONS, LESSONS, 16 * LESSONS),
+        (status, made.count("<article>"), made.count("Name <span></span> Date <span></span>"), made.count("<tr>")),
+    )
     tree.cases.holds("the text of a lesson", "<strong>Exercise</strong>, in screen 28: REVERSED", made)
     # 70 letters; 8 spaces for the tab and 60 letters; 64 bytes, of which 32 are written as ~C3; 70 letters
     (tree.room / "long.txt").write_text(f"% screen 25\n{'x' * 70}\n\t{'x' * 60}\n%~{'a~C3' * 32}\n{'x' * 70}\n", encoding="ascii")

@@ -79,10 +79,10 @@ def in_c(calls: Any, case: Case) -> str:
     data = ctypes.create_string_buffer(case.data, max(len(case.data), 1))
     bytes_of_it = (data, ctypes.c_uint64(len(case.data)))
     if case.call == "guessed":
-        status, answer = calls.forth83_guess_format(*bytes_of_it, *told_in), lambda: said.raw[:said_size.value].decode()
+        status, answer = calls.forth83_guess_format(*bytes_of_it, *told_in), lambda: said.raw[: said_size.value].decode()
     elif case.call in ("writes", "unwritten"):
         status = calls.forth83_pack(*words, case.second, ctypes.c_uint64(len(case.second)), *bytes_of_it, *told_in)
-        answer = lambda: summed(data.raw[:len(case.data)])  # noqa: E731
+        answer = lambda: summed(data.raw[: len(case.data)])  # noqa: E731
     else:
         room = 0
         while True:
@@ -91,7 +91,7 @@ def in_c(calls: Any, case: Case) -> str:
             if status != 3:
                 break
             room = size.value
-        answer = lambda: told(first.value, place.raw[:size.value])  # noqa: E731
+        answer = lambda: told(first.value, place.raw[: size.value])  # noqa: E731
     return answer() if status == 0 else f"refused: {said.raw[:said_size.value].decode()}" if status == 23 else f"status {status}"
 
 
@@ -120,8 +120,8 @@ def at_terminal(folder: Any, case: Case, reads: str, writes: str) -> str:
         return f"refused: {said}"
     blocks = (room / "case.blk").read_bytes()
     first = int(case.wanted.split()[0])
-    front = blocks[:1024 * first]
-    return told(first, blocks[1024 * first:]) if not front.strip() else "the screens before the first are not blank"
+    front = blocks[: 1024 * first]
+    return told(first, blocks[1024 * first :]) if not front.strip() else "the screens before the first are not blank"
 
 
 def try_terminal(folder: Any, expect: Expect) -> None:

@@ -6,8 +6,7 @@ import definition_machine as machines
 from definition_cases import State
 from definition_machine import NONE
 
-ROWS = [*range(1, 28), *range(32, 46), *range(48, 91), *range(96, 108), *range(112, 122), *range(128, 135), *range(144, 158), *range(168, 198),
-        *range(200, 205)]
+ROWS = [*range(1, 28), *range(32, 46), *range(48, 91), *range(96, 108), *range(112, 122), *range(128, 135), *range(144, 158), *range(168, 198), *range(200, 205)]
 EDGES = (0, 1, 2, 3, 10, 16, 31, 32, 63, 64, 255, 256, 1023, 1024, 32766, 32767, 32768, 32769, 65279, 65533, 65534, 65535)
 PLACES = (300, 301, 600, 610, 620, 700, 1000, 61440, 62464, 63488, 64512, 65530)
 SYSTEM = (16, 18, 20, 22, 24, 26, 28, 30, 32, 34, 36, 38, 40, 54)
@@ -15,9 +14,14 @@ SYSTEM = (16, 18, 20, 22, 24, 26, 28, 30, 32, 34, 36, 38, 40, 54)
 # TIB, and a text in the first buffer.
 WORLD = (
     "set 18 10 20 0 28 290 30 279 32 42 34 42 44 258 46 269 48 279 52 42 54 256 74 265 110 275",
-    "bytes 256 01 00 00 00 84 45 58 49 54 05 00", "bytes 267 01 00 00 00 83 42 59 45 17 00", "bytes 277 01 00 00 00 82 47 4F 01 00 13 01 09 01",
-    'text 600 "\\x04EXIT"', 'text 610 "\\x03-12"', 'text 61440 " BYE GO 65 NEW) X"',
-    'text 128 "GO 12. EXIT ( x) BYE -7 a-very-long-name-of-more-than-31-bytes"')
+    "bytes 256 01 00 00 00 84 45 58 49 54 05 00",
+    "bytes 267 01 00 00 00 83 42 59 45 17 00",
+    "bytes 277 01 00 00 00 82 47 4F 01 00 13 01 09 01",
+    'text 600 "\\x04EXIT"',
+    'text 610 "\\x03-12"',
+    'text 61440 " BYE GO 65 NEW) X"',
+    'text 128 "GO 12. EXIT ( x) BYE -7 a-very-long-name-of-more-than-31-bytes"',
+)
 
 
 def any_cell(chance: random.Random) -> int:
@@ -56,7 +60,7 @@ def came_lines(before: Any, after: Any) -> List[str]:
     lines.append("next -" if after.f_pending == NONE else f"next {after.f_pending[1]}")
     lines.append("buffers " + machines.parts_text(after).rpartition("buffers ")[2])
     old, new = before.f_memory, after.f_memory
-    pages = [first for first in range(0, 65536, 256) if old[first:first + 256] != new[first:first + 256]]
+    pages = [first for first in range(0, 65536, 256) if old[first : first + 256] != new[first : first + 256]]
     places = [place for first in pages for place in range(first, first + 256) if old[place] != new[place]]
     return [*lines, *(f"bytes {place} {new[place]:02X}" for place in places)]
 

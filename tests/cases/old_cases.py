@@ -8,7 +8,7 @@ import pathlib
 import re
 from typing import Dict, List, Optional, Set
 
-from sessions import ROOT, Folder
+from sessions import ROOT, Folder, shown_by_line
 
 CASES = ROOT / "tests/cases/old_cases.txt"
 WORDS = ROOT / "tests/cases/dialect_cases.txt"
@@ -35,7 +35,7 @@ class Step:
         """What is wrong with what was shown, if anything."""
         got = " ".join(output.split())
         for answer in self.answers:
-            got = (got[len(answer):] if got.startswith(answer) else got).strip()
+            got = (got[len(answer) :] if got.startswith(answer) else got).strip()
         if self.printed is not None:
             return None if " ".join(self.printed.split()) in got else f"wanted .. {self.printed} ..\n  got    {got:.300}"
         wanted = " ".join(f"{self.shown or ''} {'' if self.ends else 'ok'}".split())
@@ -84,7 +84,7 @@ class Case:
 
     def tried(self) -> Set[str]:
         """The words that it tries: those of its lines, but not the names that `:` makes, and those that it says."""
-        lines = [line for number, screen in self.screens.items() for line in screen[number == 1:]] + [step.lines() for step in self.steps]
+        lines = [line for number, screen in self.screens.items() for line in screen[number == 1 :]] + [step.lines() for step in self.steps]
         words = " ".join(lines).split()
         return self.inside | {word for before, word in zip(["", *words], words) if before != ":"}
 
@@ -115,18 +115,6 @@ def read_cases(text: str) -> List[Case]:
 def untried(dialect: str, words: Set[str], cases: List[Case]) -> List[str]:
     """Those words of a dialect that no case tries."""
     return sorted(words.difference(*(case.tried() for case in cases if dialect in case.dialects())))
-
-
-def shown_after(steps: List[Step], output: str) -> List[str]:
-    """What was shown after each line that was typed."""
-    shown, at = [], 0
-    for step, following in zip(steps, [*steps[1:], None]):
-        start = output.find(step.typed, at) + len(step.typed)
-        end = output.find(f"\n{following.typed} ", start) if following else len(output)
-        end = len(output) if end < 0 else end
-        shown.append(output[start:end])
-        at = end
-    return shown
 
 
 class Runner:
@@ -163,6 +151,6 @@ class Runner:
         output = self.folder.typed("case.blk", typed)
         if "ESC" in "".join(step.shown or "" for step in case.steps):
             output = output.replace("\x1b", "ESC")
-        output = re.sub(r"\x1b\[[0-9;]*[A-Za-z]", "", output).replace("\a", "BEL")
-        output = re.sub(r" ok \d+$", " ok", output, flags=re.M)  # how many numbers are left is no part of a case
-        return [f"{step.typed}: {wrong}" for step, got in zip(steps, shown_after(steps, output)) if (wrong := step.fails(got)) is not None]
+        shown = shown_by_line([step.typed for step in steps], output.replace("\a", "BEL"))
+        gots = (re.sub(r" ok \d+$", " ok", got, flags=re.M) for got in shown)  # how many numbers are left is no part of a case
+        return [f"{step.typed}: {wrong}" for step, got in zip(steps, gots) if (wrong := step.fails(got)) is not None]

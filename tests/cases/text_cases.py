@@ -14,8 +14,8 @@ HERE = pathlib.Path(__file__).resolve().parent
 PAGE = 1024
 CAUSES = ("OutOfMemory", "BadEscape", "LongLine", "FullScreen", "BadHeading", "LateHeading", "NamedTwice", "NoScreen")
 # Of what random texts are made.
-LINES = (b"% screen 1", b"% screen 2", b"% screen 3 ", b"% screen 03", b"%x", b"%%x", b"%~a~41", b"%~~", b"", b" ", b"\t", b"x\ty", b": A 1 ;", b"(\xc3\xa4)",
-         b"64 " * 22, b"~41", b"\x1a", b"%", b"% screen 65535")
+MARKED = (b"% screen 1", b"% screen 2", b"% screen 3 ", b"% screen 03", b"%x", b"%%x", b"%~a~41", b"%~~")
+LINES = (*MARKED, b"", b" ", b"\t", b"x\ty", b": A 1 ;", b"(\xc3\xa4)", b"64 " * 22, b"~41", b"\x1a", b"%", b"% screen 65535")
 Reads = Callable[[bytes], str]
 
 
@@ -79,9 +79,11 @@ def random_texts(count: int, seed: int) -> Iterator[bytes]:
 
 def headings_by_program(program: str) -> Reads:
     """What `headings` prints."""
+
     def reads(text: bytes) -> str:
         done = subprocess.run([program, "headings", "/dev/stdin"], input=text, stdout=subprocess.PIPE, check=False)
         return ", ".join(done.stdout.decode().splitlines()) if done.returncode == 0 else f"status {done.returncode}"
+
     return reads
 
 
@@ -98,12 +100,14 @@ def by_program(program: str) -> Reads:
                 return done.stdout.decode().strip().replace(":", "")
             content = blocks.read_bytes() if blocks.exists() else b""
         named = [int(heading.split()[0]) for heading in headings(text).split(", ") if heading]
-        return answer_of({number: content[PAGE * number:PAGE * (number + 1)] for number in named or range(1, len(content) // PAGE)})
+        return answer_of({number: content[PAGE * number : PAGE * (number + 1)] for number in named or range(1, len(content) // PAGE)})
+
     return reads
 
 
 def by_library(calls: Any) -> Reads:
     """What forth83_screens answers."""
+
     def reads(text: bytes) -> str:
         most = text.count(b"\n") + 1
         numbers, pages = (ctypes.c_uint16 * most)(), ctypes.create_string_buffer(PAGE * most)
@@ -112,7 +116,8 @@ def by_library(calls: Any) -> Reads:
         status = calls.forth83_screens(*words, ctypes.byref(count), ctypes.byref(line), ctypes.byref(cause))
         if status == 23:
             return f"line {line.value} " + (CAUSES[cause.value] if cause.value < 256 else f"BadByte {cause.value - 256}")
-        return answer_of({numbers[at]: pages.raw[PAGE * at:PAGE * (at + 1)] for at in range(count.value)}) if status == 0 else f"status {status}"
+        return answer_of({numbers[at]: pages.raw[PAGE * at : PAGE * (at + 1)] for at in range(count.value)}) if status == 0 else f"status {status}"
+
     return reads
 
 
@@ -120,7 +125,7 @@ def written_by(calls: Any, number: int, page: bytes) -> Tuple[int, bytes]:
     """The status of forth83_text, and the text."""
     room, size = ctypes.create_string_buffer(3200), ctypes.c_uint64()
     status = calls.forth83_text(ctypes.c_uint16(number), page, ctypes.c_uint64(len(page)), room, ctypes.c_uint64(3200), ctypes.byref(size))
-    return status, room.raw[:size.value]
+    return status, room.raw[: size.value]
 
 
 def try_cases(what: str, reads: Reads, must: Callable[[object, str], object], tried: List[Case]) -> int:

@@ -33,7 +33,7 @@ class Place(NamedTuple):
 
 def module_of(crate: str, path: str) -> str:
     """The path of a file's module, as `cells` for src/lib.rt or `machine::machine::answers` for src/machine/answers.rt."""
-    inside = path[len("src/"):-len(".rt")].split("/")
+    inside = path[len("src/") : -len(".rt")].split("/")
     return "::".join([crate, *([] if inside in (["lib"], ["main"]) else inside)])
 
 
@@ -50,7 +50,7 @@ def first_brace(lines: List[str], at: int, last: int, indent: str) -> Optional[i
     if alone is not None:
         return alone
     found = next((n for n in range(at, last) if lines[n].endswith("{")), None)
-    return None if found is None or any(CLAUSE.match(line) for line in lines[at:found + 1]) else found
+    return None if found is None or any(CLAUSE.match(line) for line in lines[at : found + 1]) else found
 
 
 def begin_of(lines: List[str], at: int) -> int:
@@ -102,7 +102,7 @@ def function_at(bodies: List[Body], at: int, before: str, after: str) -> Optiona
 
 def text_within(lines: List[str], body: Body, head: str) -> str:
     """What is between the braces of a body, if the line of its first brace was `head`."""
-    return "\n".join([lines[body.first][len(head):], *lines[body.first + 1:body.last]])
+    return "\n".join([lines[body.first][len(head) :], *lines[body.first + 1 : body.last]])
 
 
 def changed_in(crate: str, path: str, before: str, after: str) -> FrozenSet[Place]:

@@ -7,34 +7,32 @@ import base64
 import json
 import os
 import pathlib
+import select
 import shutil
 import subprocess
 import tempfile
 import time
 from typing import Any, Dict, List, Tuple
 
-OPTIONS = ("--headless", "--no-sandbox", "--disable-gpu", "--hide-scrollbars", "--remote-debugging-pipe",
-           "--disable-background-networking")
+OPTIONS = ("--headless", "--no-sandbox", "--disable-gpu", "--hide-scrollbars", "--remote-debugging-pipe", "--disable-background-networking")
 NAMES = ("chromium", "chromium-browser", "google-chrome")
-CODES = {"ArrowLeft": 37, "ArrowUp": 38, "ArrowRight": 39, "ArrowDown": 40, "PageUp": 33, "PageDown": 34, "End": 35, "Home": 36,
-         "Tab": 9, "Enter": 13, " ": 32}
-SHIFT = 8
-
-# Texts whose color and background differ by less than 4.5 to 1, which WCAG 2.1 wants at level AA.
-CONTRAST = """(() => {
-  const channel = (part) => (part /= 255, part <= 0.03928 ? part / 12.92 : ((part + 0.055) / 1.055) ** 2.4);
-  const numbers = (text) => (text.match(/[\\d.]+/g) || [0, 0, 0, 0]).map(Number);
-  const light = (color) => { const [r, g, b] = numbers(color).map(channel); return 0.2126 * r + 0.7152 * g + 0.0722 * b };
-  const ground = (one) => { for (; one; one = one.parentElement) { const color = getComputedStyle(one).backgroundColor, parts = numbers(color);
-    if (parts.length === 3 || parts[3] > 0) return color; } return "rgb(255, 255, 255)" };
-  const low = [];
-  for (const one of document.querySelectorAll("body *")) {
-    if (!one.offsetParent || one.closest("[aria-hidden], option") || ![...one.childNodes].some((it) => it.nodeType === 3 && it.textContent.trim())) continue;
-    const pair = [light(getComputedStyle(one).color), light(ground(one))].sort((a, b) => b - a), ratio = (pair[0] + 0.05) / (pair[1] + 0.05);
-    if (ratio < 4.5) low.push(`${one.tagName} ${one.id} ${one.className} ${ratio.toFixed(1)}`);
-  }
-  return [...new Set(low)];
-})()"""
+CODES = {
+    "ArrowLeft": 37,
+    "ArrowUp": 38,
+    "ArrowRight": 39,
+    "ArrowDown": 40,
+    "PageUp": 33,
+    "PageDown": 34,
+    "End": 35,
+    "Home": 36,
+    "Tab": 9,
+    "Enter": 13,
+    "Escape": 27,
+    "F1": 112,
+    " ": 32,
+}
+MODIFIERS = {"Control": 2, "Shift": 8}
+LONGEST = 180  # seconds without a message
 
 
 def chromium() -> str:
@@ -45,12 +43,14 @@ def chromium() -> str:
 class Browser:
     """A browser with one page."""
 
-    keeps_after_crash = True
+    keeps_after_crash = has_looks = True
 
     def __init__(self, width: int = 1280, height: int = 900) -> None:
         self.room, self.shape = tempfile.TemporaryDirectory(), (width, height)
         self.errors: List[str] = []
         self.asked: List[str] = []
+        self.preferred: List[Dict[str, str]] = []
+        self.medium = "screen"
         self.start()
 
     def start(self) -> None:
@@ -106,6 +106,8 @@ class Browser:
 
     def receive(self) -> Dict[str, Any]:
         while b"\0" not in self.rest:
+            if not select.select([self.back], [], [], LONGEST)[0]:
+                raise RuntimeError(f"the browser says nothing for {LONGEST} seconds")
             piece = os.read(self.back, 1 << 16)
             if not piece:
                 raise RuntimeError("the browser ended")
@@ -152,18 +154,28 @@ class Browser:
 
     def prefers(self, **features: str) -> None:
         """What the reader prefers: `prefers(color_scheme="dark", reduced_motion="reduce")`."""
-        values = [{"name": f"prefers-{name.replace('_', '-')}", "value": value} for name, value in features.items()]
-        self.call("Emulation.setEmulatedMedia", features=values)
+        self.preferred = [{"name": f"prefers-{name.replace('_', '-')}", "value": value} for name, value in features.items()]
+        self.media(self.medium)
+
+    def media(self, medium: str) -> None:
+        """As on a screen, or as it is printed: `print`."""
+        self.medium = medium
+        self.call("Emulation.setEmulatedMedia", media=medium, features=self.preferred)
 
     def press(self, *names: str) -> None:
         """Presses keys by their names; `Shift+End` holds the shift key."""
         for name in names:
-            is_shifted, name = name.startswith("Shift+"), name[6:] if name.startswith("Shift+") else name
-            one = {"key": name, "windowsVirtualKeyCode": CODES.get(name, ord(name[0].upper())), "modifiers": SHIFT if is_shifted else 0}
-            if len(name) == 1:
-                one["text"] = name
-            self.call("Input.dispatchKeyEvent", type="keyDown", **one)
+            *held, name = name.split("+") if len(name) > 1 else [name]
+            name = "\x20" if name == "Space" else name
+            one = {"key": name, "code": name, "windowsVirtualKeyCode": CODES.get(name, ord(name[0].upper())), "modifiers": sum(MODIFIERS[it] for it in held)}
+            if name == "Enter" or len(name) == 1 and not held:
+                one["text"] = "\r" if name == "Enter" else name
+            self.call("Input.dispatchKeyEvent", type="keyDown" if "text" in one else "rawKeyDown", **one)
             self.call("Input.dispatchKeyEvent", type="keyUp", **one)
+
+    def write(self, text: str) -> None:
+        """Types a text where the focus is."""
+        self.call("Input.insertText", text=text)
 
     def value(self, expression: str) -> Any:
         done = self.call("Runtime.evaluate", expression=expression, returnByValue=True, awaitPromise=True)
@@ -186,8 +198,7 @@ class Browser:
     def nameless(self, roles: Tuple[str, ...]) -> List[str]:
         """The accessible elements of these roles that have no name, as a screen reader finds them."""
         nodes = [node for node in self.call("Accessibility.getFullAXTree")["nodes"] if not node.get("ignored")]
-        return [node["role"]["value"] for node in nodes
-                if node.get("role", {}).get("value") in roles and not node.get("name", {}).get("value")]
+        return [node["role"]["value"] for node in nodes if node.get("role", {}).get("value") in roles and not node.get("name", {}).get("value")]
 
     def paper(self, path: pathlib.Path) -> None:
         done = self.call("Page.printToPDF", preferCSSPageSize=True)

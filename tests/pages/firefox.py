@@ -6,11 +6,53 @@ import socket
 import subprocess
 import tempfile
 import time
-from typing import Any, List
+from typing import Any, Dict, List
 
 NAMES = ("firefox-esr", "firefox")
-SETTINGS = {"marionette.port": 0, "browser.shell.checkDefaultBrowser": False, "datareporting.policy.dataSubmissionEnabled": False, "app.update.enabled": False,
-            "toolkit.telemetry.enabled": False, "browser.startup.page": 0, "dom.disable_beforeunload": True, "browser.tabs.remote.autostart": True}
+SETTINGS = {
+    "marionette.port": 0,
+    "browser.shell.checkDefaultBrowser": False,
+    "datareporting.policy.dataSubmissionEnabled": False,
+    "app.update.enabled": False,
+    "toolkit.telemetry.enabled": False,
+    "browser.startup.page": 0,
+    "dom.disable_beforeunload": True,
+    "browser.tabs.remote.autostart": True,
+}
+
+# The keys of the WebDriver standard that have names.
+KEYS = {
+    "Enter": 0xE007,
+    "Tab": 0xE004,
+    "Shift": 0xE008,
+    "Control": 0xE009,
+    "Escape": 0xE00C,
+    "PageUp": 0xE00E,
+    "PageDown": 0xE00F,
+    "End": 0xE010,
+    "Home": 0xE011,
+    "ArrowLeft": 0xE012,
+    "ArrowUp": 0xE013,
+    "ArrowRight": 0xE014,
+    "ArrowDown": 0xE015,
+    "F1": 0xE031,
+    "F6": 0xE036,
+    "Space": 32,
+}
+
+
+def strokes(*names: str) -> List[Dict[str, object]]:
+    """Keys by their names, as a driver presses them; `Control+z` holds a key."""
+    made = []
+    for name in names:
+        keys = [chr(KEYS[one]) if one in KEYS else one for one in (name.split("+") if len(name) > 1 else [name])]
+        made += [{"type": "keyDown", "value": key} for key in keys] + [{"type": "keyUp", "value": key} for key in reversed(keys)]
+    return [{"type": "key", "id": "keys", "actions": made}]
+
+
+def letters(text: str) -> List[str]:
+    """The keys of a text."""
+    return ["Enter" if letter == "\n" else letter for letter in text]
 
 
 def firefox() -> str:
@@ -27,11 +69,12 @@ def free_port() -> int:
 class Firefox:
     """A browser, which may be killed and started again with what it has kept."""
 
-    keeps_after_crash = True
+    keeps_after_crash, has_looks = True, False
 
     def __init__(self) -> None:
         self.room = tempfile.TemporaryDirectory()
         self.errors: List[str] = []
+        self.asked: List[str] = []
         self.start()
 
     def start(self) -> None:
@@ -68,7 +111,7 @@ class Firefox:
                 raise RuntimeError("the browser ended")
             self.rest += piece
         size, _, rest = self.rest.partition(b":")
-        text, self.rest = rest[:int(size)], rest[int(size):]
+        text, self.rest = rest[: int(size)], rest[int(size) :]
         return json.loads(text)
 
     def call(self, method: str, **values: object) -> Any:
@@ -82,8 +125,10 @@ class Firefox:
 
     def value(self, expression: str) -> Any:
         """The value of an expression, or of what it promises."""
-        script = f"const done = arguments[arguments.length - 1]; Promise.resolve().then(() => window.eval ? ({expression}) : 0)" \
-                 ".then((value) => done([value]), (error) => done([null, String(error)]));"
+        script = (
+            f"const done = arguments[arguments.length - 1]; Promise.resolve().then(() => window.eval ? ({expression}) : 0)"
+            ".then((value) => done([value]), (error) => done([null, String(error)]));"
+        )
         found = self.call("WebDriver:ExecuteAsyncScript", script=script, args=[], sandbox=None, newSandbox=False)["value"]
         if len(found) > 1:
             raise RuntimeError(found[1])
@@ -91,6 +136,14 @@ class Firefox:
 
     def open(self, path: pathlib.Path) -> None:
         self.call("WebDriver:Navigate", url=f"file://{path.resolve()}")
+
+    def press(self, *names: str) -> None:
+        """Presses keys by their names."""
+        self.call("WebDriver:PerformActions", actions=strokes(*names))
+
+    def write(self, text: str) -> None:
+        """Types a text where the focus is."""
+        self.press(*letters(text))
 
     def window(self, handle: str = "") -> str:
         """Goes to a window, or opens another one; its name."""

@@ -9,110 +9,13 @@ import time
 import zlib
 from typing import Any, Callable, Dict, List, NamedTuple, Optional, Tuple
 
+import editions
+from page_steps import ACTS
 from tally import Tally
 
 BLOCK, LINES, WIDTH, MOST_DISKS = 1024, 16, 64, 40
-DATA = re.compile(r'(<script type="text/plain" id="packed-data" data-size=")(\d+)(">)([^<]*)')
 ANSWERS = ("both", "replace", "cancel")
 
-# What the trial does in the page. An act is one promise, so that a trip to the browser is enough; `answers` are those to the page's questions.
-DRIVER = """(() => {
-  const table = Array.from({ length: 256 }, (_, n) => { for (let k = 0; k < 8; k++) n = n & 1 ? (n >>> 1) ^ 0xedb88320 : n >>> 1; return n >>> 0; });
-  // Firefox runs this outside of the page's realm, where each look at a byte of the page's takes long: the bytes are copied first.
-  const crc = (bytes) => {
-    const own = new Uint8Array(bytes);
-    let c = 0xffffffff;
-    for (let at = 0; at < own.length; at++) c = table[(c ^ own[at]) & 255] ^ (c >>> 8);
-    return (c ^ 0xffffffff) >>> 0;
-  };
-  const by = (id) => document.getElementById(id), page = window.page, { work, session } = page, text = by("screen-text");
-  const idle = async () => { while (session.isRunning) await new Promise((done) => setTimeout(done, 1)); };
-  const bytes = (value) => Uint8Array.from(atob(value), (letter) => letter.charCodeAt(0));
-  const pause = () => work.undos.forEach((one) => (one.when = 0));
-  const trial = window.trial = { answers: [], refusing: null,
-    async sums() {
-      const found = {};
-      for (const disk of work.disks.values()) {
-        if (!disk.bytes && work.stored.get(disk.name) !== disk) continue;
-        await work.load(disk);
-        const all = disk.bytes.slice();
-        if (disk === work.disk) for (const one of session.machine.buffers) if (one.updated && one.block !== null) all.set(one.bytes, one.block * 1024);
-        found[disk.name] = [disk.count, crc(all)];
-      }
-      return { found, current: work.disk.name, undos: work.undos.length, redos: work.redos.length, isOurs: work.isOurs, drafts: work.drafts.size };
-    },
-    async act(name, ...words) {
-      await idle();
-      await trial[name](...words);
-      await idle();
-      pause();
-      return trial.sums();
-    },
-    async type(line) { page.enter(line); },
-    show(block, wanted) {
-      page.editor.go(block);
-      if (text.value.trimEnd() !== wanted.trimEnd()) throw new Error(`the frame shows ${JSON.stringify(text.value)} in place of ${JSON.stringify(wanted)}`);
-    },
-    async edit(block, wanted, line, value) {
-      trial.show(block, wanted);
-      const lines = text.value.split("\\n");
-      lines[line] = value;
-      text.value = lines.join("\\n");
-      text.dispatchEvent(new Event("input"));
-    },
-    async lineKey(block, wanted, line, key) {
-      trial.show(block, wanted);
-      page.editor.select(line, 0);
-      text.dispatchEvent(new KeyboardEvent("keydown", { key, ctrlKey: true, shiftKey: true, cancelable: true }));
-    },
-    async click(...ids) {
-      for (const id of ids) {
-        by(id).click();
-        await new Promise((done) => setTimeout(done));
-      }
-    },
-    async arrange(block, button) {
-      page.editor.go(block);
-      await trial.click(button);
-    },
-    async replace(block, wanted, instead, isWhole, ...buttons) {
-      page.editor.go(block);
-      Object.assign(by("screen-find"), { value: wanted });
-      Object.assign(by("screen-instead"), { value: instead });
-      Object.assign(by("screen-whole"), { checked: isWhole });
-      await trial.click(...buttons);
-    },
-    async fresh(name) { return btoa(Array.from((await work.load(work.disks.get(name))).bytes, (byte) => String.fromCharCode(byte)).join("")); },
-    async open(...files) { await page.files.openAll(files.map(([name, value]) => new File([bytes(value)], name))); },
-    async drop(...files) {
-      const data = new DataTransfer(), all = [];
-      for (const [name, value] of files) data.items.add(new File([bytes(value)], name));
-      const before = page.files.openAll;
-      page.files.openAll = (given) => all.push(before.call(page.files, given));
-      document.dispatchEvent(new DragEvent("drop", { dataTransfer: data, bubbles: true, cancelable: true }));
-      page.files.openAll = before;
-      await Promise.all(all);
-    },
-    async create() { await page.files.newDisk(); },
-    async rename() { await page.files.renameDisk(); },
-    async remove() { await page.files.removeDisk(); },
-    async putIn(name) { await work.putIn(name); },
-    async undo() { work.undo(); },
-    async redo() { work.redo(); },
-    async person(name) { await page.changeWork(name); },
-    async keep() { await work.keep(); },
-    async refuse(isRefused) {
-      trial.refusing ??= IDBObjectStore.prototype.put;
-      IDBObjectStore.prototype.put = isRefused ? () => { throw new Error("refused"); } : trial.refusing;
-      await work.keep();
-    },
-  };
-  page.ask = async (question, choices, { given } = {}) => {
-    const answer = trial.answers.shift();
-    if (answer === undefined || answer === "cancel") return null;
-    return given === undefined ? choices.find((one) => one.toLowerCase().includes(answer)) ?? choices[0] : answer;
-  };
-})(), 0"""
 READY = "window.page && window.page.isOpen && !window.page.session.isRunning && !document.getElementById('ask').open"
 
 
@@ -137,11 +40,11 @@ class Person:
 
 
 def page_of(disk: bytes, block: int) -> bytes:
-    return disk[block * BLOCK:(block + 1) * BLOCK]
+    return disk[block * BLOCK : (block + 1) * BLOCK]
 
 
 def with_page(disk: bytes, block: int, page: bytes) -> bytes:
-    return disk[:block * BLOCK] + page + disk[(block + 1) * BLOCK:]
+    return disk[: block * BLOCK] + page + disk[(block + 1) * BLOCK :]
 
 
 def is_text(page: bytes) -> bool:
@@ -149,11 +52,11 @@ def is_text(page: bytes) -> bool:
 
 
 def lines_of(page: bytes) -> List[str]:
-    return [page[at:at + WIDTH].decode("ascii").replace("\0", " ").rstrip(" ") for at in range(0, BLOCK, WIDTH)]
+    return [page[at : at + WIDTH].decode("ascii").replace("\0", " ").rstrip(" ") for at in range(0, BLOCK, WIDTH)]
 
 
 def with_line(page: bytes, line: int, text: str) -> bytes:
-    return page[:line * WIDTH] + text.encode("ascii").ljust(WIDTH) + page[(line + 1) * WIDTH:]
+    return page[: line * WIDTH] + text.encode("ascii").ljust(WIDTH) + page[(line + 1) * WIDTH :]
 
 
 class Model:
@@ -294,25 +197,10 @@ class Model:
             changed = [at for at in range(len(mine) // BLOCK) if at * BLOCK >= len(base) or page_of(mine, at) != page_of(base, at)]
             if any(page_of(theirs, at) not in (b"", page_of(base, at), page_of(mine, at)) for at in changed):
                 me.disks[self.free(name)] = mine
-            made = theirs + mine[len(theirs):]
+            made = theirs + mine[len(theirs) :]
             for at in changed:
                 made = with_page(made, at, page_of(mine, at))
             me.disks[name], me.bases[name] = made, theirs
-
-
-def other_edition(source: pathlib.Path, target: pathlib.Path, number: int) -> None:
-    """A page like this one, of another version: screens of its disks are others, and so is its Forth's sum."""
-    text = source.read_text(encoding="utf-8")
-    found = DATA.search(text)
-    assert found, "a page without data"
-    data = json.loads(zlib.decompress(base64.b64decode(found[4]), -15))
-    for name in ("course.blk", "kiln.blk"):
-        data["disks"][name]["text"] = re.sub(r"(?m)^% screen (\d+)\n.*", rf"% screen \1\n( Edition {number} of screen \1 )", data["disks"][name]["text"], count=4 + number % 3)
-    data["version"] = {"text": f"forth83 9.{number}.0 in a page, unproved", "image": f"{number:064}"}
-    content = json.dumps(data).encode()
-    packing = zlib.compressobj(9, zlib.DEFLATED, -15)
-    packed = base64.b64encode(packing.compress(content) + packing.flush()).decode()
-    target.write_text(text[:found.start()] + f"{found[1]}{len(content)}{found[3]}{packed}" + text[found.end():], encoding="utf-8")
 
 
 class Keeping:
@@ -323,7 +211,7 @@ class Keeping:
         self.page, self.editions, self.refused, self.saved = room / "page.html", [page], False, []  # type: ignore
         for number in (1, 2):
             self.editions.append(room / f"edition{number}.html")
-            other_edition(page, self.editions[-1], number)
+            editions.other_edition(page, self.editions[-1], number)
         self.edition = 0
         self.log: List[str] = []
         self.page.write_bytes(page.read_bytes())
@@ -342,21 +230,21 @@ class Keeping:
     def start(self, answer: str = "Keep the old one") -> None:
         self.browser.open(self.page)
         self.wait("!!(window.page && window.page.isOpen)")
-        self.browser.value(f"[...document.querySelectorAll('#ask-answers button')].filter((one) => document.getElementById('ask').open && "
-                           f"one.textContent === {json.dumps(answer)}).forEach((one) => one.click()), 0")
+        self.browser.value(
+            f"[...document.querySelectorAll('#ask-answers button')].filter((one) => document.getElementById('ask').open && "
+            f"one.textContent === {json.dumps(answer)}).forEach((one) => one.click()), 0"
+        )
         self.wait(READY)
-        self.browser.value(DRIVER)
+        self.browser.value(f"{ACTS}, 0")
 
     def built_in(self) -> Dict[str, bytes]:
         """The page's disks, as no work has changed them: read from the page's data, and not from the work."""
-        found = DATA.search(self.editions[self.edition].read_text(encoding="utf-8"))
-        assert found
-        data = json.loads(zlib.decompress(base64.b64decode(found[4]), -15))
+        data = editions.unpacked(self.editions[self.edition].read_text(encoding="utf-8"))
         return {name: disk_of(one) for name, one in data["disks"].items()}
 
     def act(self, name: str, *words: object, answers: Tuple[str, ...] = ()) -> Dict[str, Any]:
         given = ", ".join(json.dumps(word) for word in (name, *words))
-        return self.browser.value(f"(window.trial.answers = {json.dumps(answers)}, window.trial.act({given}))")
+        return self.browser.value(f"(window.trial.answer(...{json.dumps(answers)}), window.trial.act({given}))")
 
     # The acts.
 
@@ -393,14 +281,14 @@ class Keeping:
         shown = self.model.shown(block)
         if text == shown[line]:
             text += "+"
-        self.model.edit(block, [*shown[:line], text, *shown[line + 1:]])
+        self.model.edit(block, [*shown[:line], text, *shown[line + 1 :]])
         return self.act("edit", block, "\n".join(shown), line, text)
 
     def line_key(self) -> Any:
         """The key that deletes a line, or duplicates it."""
         block, line, key = self.dice.randrange(1, 4), self.dice.randrange(LINES), self.dice.choice("KD")
         shown = self.model.shown(block)
-        self.model.edit(block, [*shown[:line], *([shown[line]] * 2 if key == "D" else []), *shown[line + 1:]])
+        self.model.edit(block, [*shown[:line], *([shown[line]] * 2 if key == "D" else []), *shown[line + 1 :]])
         return self.act("lineKey", block, "\n".join(shown), line, key)
 
     def arrange(self) -> Any:
@@ -564,9 +452,14 @@ class Keeping:
             self.wait("!window.page.work.isOurs")
             is_closed = "document.getElementById('line').disabled && document.getElementById('screen-text').readOnly"
             self.cases.must(self.browser.value(is_closed), "the older of two windows takes lines")
-            words = {"open": (["mine.blk", base64.b64encode(self.content()).decode()],), "edit": (1, "\n".join(self.model.shown(1)), 0, "( of the older )"),
-                     "arrange": (1, "screen-later"), "lineKey": (1, "\n".join(self.model.shown(1)), 0, "K"), "replace": (1, "a", "b", False, "screen-all"),
-                     "type": ("1 SCR ! 0 PUT ( of the older ) FLUSH",)}.get(kind, ())
+            words = {
+                "open": (["mine.blk", base64.b64encode(self.content()).decode()],),
+                "edit": (1, "\n".join(self.model.shown(1)), 0, "( of the older )"),
+                "arrange": (1, "screen-later"),
+                "lineKey": (1, "\n".join(self.model.shown(1)), 0, "K"),
+                "replace": (1, "a", "b", False, "screen-all"),
+                "type": ("1 SCR ! 0 PUT ( of the older ) FLUSH",),
+            }.get(kind, ())
             self.act(kind, *words, answers=("mine.blk", "replace"))
             self.act("keep")
             self.browser.window(second)

@@ -58,7 +58,9 @@ function runPlan(plan) {
   }
   return [toBase64(Uint8Array.from(shown)), toBase64(tried.copy()), toBase64(blocks)];
 }
-""" % {"blocks": BLOCKS}
+""" % {
+    "blocks": BLOCKS
+}
 
 
 class Native:
@@ -81,10 +83,9 @@ class Native:
     def give(self, kind: str, body: bytes = b"") -> None:
         """A request, and what the machine does then."""
         room, size = ctypes.create_string_buffer(ROOM), ctypes.c_uint64()
-        status = self.calls.forth83_serve(ctypes.byref(self.machine), ctypes.c_uint8(ord(kind)), body, ctypes.c_uint64(len(body)), room,
-                                          ctypes.c_uint64(ROOM), ctypes.byref(size))
+        status = self.calls.forth83_serve(ctypes.byref(self.machine), ctypes.c_uint8(ord(kind)), body, ctypes.c_uint64(len(body)), room, ctypes.c_uint64(ROOM), ctypes.byref(size))
         assert status == 0, f"serve: status {status}"
-        reply = room.raw[:size.value]
+        reply = room.raw[: size.value]
         while reply:
             end = 3 + int.from_bytes(reply[1:3], "little")
             if reply[:1] == b"s":
@@ -114,7 +115,7 @@ class Native:
         end = self.pending.find(b"\n")
         size = min(len(self.pending) if end < 0 else end, most)
         is_whole = end == size < most
-        line, self.pending = self.pending[:size], self.pending[size + is_whole:]
+        line, self.pending = self.pending[:size], self.pending[size + is_whole :]
         self.give("l", bytes([is_whole]) + line)
 
     def serve(self, is_read: bool, block: int) -> None:
@@ -123,11 +124,11 @@ class Native:
         if block >= BLOCKS:
             self.give("f" if is_read else "g")
         elif is_read:
-            self.give("p", bytes(self.blocks[at:at + PAGE]))
+            self.give("p", bytes(self.blocks[at : at + PAGE]))
         else:
-            slots = [one.slot for one in self.machine.buffers[:self.machine.buffer_count] if one.has_block and one.block == block]
+            slots = [one.slot for one in self.machine.buffers[: self.machine.buffer_count] if one.has_block and one.block == block]
             place = 65536 - PAGE * (self.machine.buffer_count - slots[0])
-            self.blocks[at:at + PAGE] = bytes(self.machine.memory[place:place + PAGE])
+            self.blocks[at : at + PAGE] = bytes(self.machine.memory[place : place + PAGE])
             self.give("w")
 
 
@@ -172,7 +173,7 @@ def compare(cases: Tally, browser: browsers.Browser, program: pathlib.Path, is_p
         browser.value(f"window.plain = fromBase64({json.dumps(base64.b64encode(image).decode())}); 0")
         wanted = plans(count)
         for at in range(0, count, BATCH):
-            batch = wanted[at:at + BATCH]
+            batch = wanted[at : at + BATCH]
             answers = browser.value(f"{json.dumps(batch)}.map(runPlan)")
             for number, (plan, answer) in enumerate(zip(batch, answers), at):
                 got = tuple(base64.b64decode(part) for part in answer)

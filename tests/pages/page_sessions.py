@@ -2,10 +2,10 @@
 import json
 import pathlib
 import re
-from typing import List, Optional
+from typing import List
 
 import sessions
-from page_trials import Trial, squeezed
+from page_steps import Runner, squeezed
 
 ROOT = pathlib.Path(__file__).resolve().parents[2]
 DOCUMENTS = ("docs/COURSE.md", "examples/README.md")
@@ -17,67 +17,60 @@ LEFT_OUT = ("1 3 THRU .LOG", "boiler", "1 load")
 class Session:
     """A document's session in the page."""
 
-    def __init__(self, trial: Trial, name: str) -> None:
-        self.trial, self.name, self.is_typed, self.count = trial, name, True, 0
+    def __init__(self, runner: Runner, name: str) -> None:
+        self.runner, self.name, self.is_typed, self.count = runner, name, True, 0
 
     def shell(self, line: str) -> None:
         """What a line of the shell means for the page: a disk that is made, or a Forth that starts."""
         made = re.fullmatch(r"\./(?:forth blocks|forth83 screens) ((?:examples|screens)/\S+) (\S+)", line)
         if made:
             text, count = (ROOT / made[1]).read_text(encoding="ascii"), 64 if line.startswith("./forth blocks") else 128
-            disk = f"diskOfText({json.dumps(made[2])}, {count}, {json.dumps(text)})"
-            self.trial.answers("Replace")
-            self.trial.value(f"window.in = false; page.work.insert({json.dumps(made[2])}, {disk}.bytes).then(() => (window.in = true)); 0")
-            self.trial.wait("window.in")
+            self.runner.verb("answers", "Replace")
+            self.runner.value(f"page.work.insert({json.dumps(made[2])}, diskOfText({json.dumps(made[2])}, {count}, {json.dumps(text)}).bytes).then(() => 0)")
         started = STARTS.fullmatch(line)
         self.is_typed = bool(started)
         if started:
-            self.trial.value(f"page.work.putIn({json.dumps((started[1] or 'forth.blk').strip())})")
-            self.trial.value("page.session.settle(); page.session.start(); 0")
-            self.trial.idle()
+            self.runner.verb("put", (started[1] or "forth.blk").strip())
+            self.runner.value("page.session.settle(); page.session.start(); 0")
+            self.runner.idle()
 
     def type(self, step: sessions.Step) -> None:
         """Types a line and its answers, and compares."""
-        trial = self.trial
-        trial.value("page.transcript.clear(); 0")
-        trial.value(f"page.enter({json.dumps(step.typed)}); 0")
-        trial.idle()
+        runner = self.runner
+        runner.value(f"page.transcript.clear(); page.enter({json.dumps(step.typed)}); 0")
+        runner.idle()
         for answer in re.findall(r".+?\n|.+", step.answers):
             self.answer(answer)
-        wanted, got = squeezed("\n".join(step.shown)), squeezed(trial.shown()[len(step.typed):])
+        wanted, got = squeezed("\n".join(step.shown)), squeezed(runner.value("page.transcript.text()")[len(step.typed) :])
         self.count += 1
         is_same = got == wanted or wanted == "compiled"
-        if trial.value("!!document.querySelector('#transcript .screen')"):
+        if runner.value("!!document.querySelector('#transcript .screen')"):
             # A game that clears the screen: its last board is to be seen.
-            is_same = is_same or squeezed(trial.value("[...document.querySelectorAll('#transcript .screen')].pop().textContent")) in wanted
-        trial.must(is_same, f"{self.name}, {step.typed!r}: wanted {wanted[:200]!r}, got {got[:200]!r}")
+            is_same = is_same or squeezed(runner.value("[...document.querySelectorAll('#transcript .screen')].pop().textContent")) in wanted
+        runner.cases.must(is_same, f"{self.name}, {step.typed!r}: wanted {wanted[:200]!r}, got {got[:200]!r}")
 
     def answer(self, text: str) -> None:
         """An answer to what a program asks: keys, or a line."""
-        if self.trial.value("page.session.waitsForKey"):
-            self.trial.value(f"page.session.press([...encode({json.dumps(text)})]); 0")
-        else:
-            self.trial.value(f"page.enter({json.dumps(text.rstrip())}); 0")
-        self.trial.idle()
+        keys, line = json.dumps(text), json.dumps(text.rstrip())
+        self.runner.value(f"page.session.waitsForKey ? page.session.press([...encode({keys})]) : page.enter({line}); 0")
+        self.runner.idle()
 
     def run(self, steps: List[sessions.Step]) -> None:
         for step in steps:
             if step.at_shell:
                 self.shell(step.typed)
             elif self.is_typed and step.typed == "BYE":
-                self.trial.value("page.session.settle(); 0")
+                self.runner.value("page.session.settle(); 0")
             elif self.is_typed and step.typed not in LEFT_OUT:
                 self.type(step)
 
 
-def check(trial: Trial, only: Optional[str] = None) -> int:
+def check(runner: Runner) -> int:
     """All documents: how many lines were typed."""
     count = 0
     for name in DOCUMENTS:
-        if only and only != name:
-            continue
-        trial.open()
-        session = Session(trial, name)
+        runner.verb("forget")
+        session = Session(runner, name)
         session.shell("./forth blocks screens/course/course.txt course.blk")
         session.run(sessions.steps_of((ROOT / name).read_text(encoding="utf-8")))
         count += session.count

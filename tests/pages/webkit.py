@@ -10,7 +10,7 @@ import urllib.error
 import urllib.request
 from typing import Any, List
 
-from firefox import free_port
+from firefox import free_port, letters, strokes
 
 DRIVER = "WebKitWebDriver"
 MINI_BROWSERS = ("/usr/lib/x86_64-linux-gnu/webkit2gtk-4.1/MiniBrowser", "/usr/lib/x86_64-linux-gnu/webkit2gtk-4.0/MiniBrowser")
@@ -25,20 +25,23 @@ def mini_browser() -> str:
 class WebKit:
     """A browser; a crash ends all that it kept."""
 
-    keeps_after_crash = False
+    keeps_after_crash = has_looks = False
 
     def __init__(self) -> None:
         self.errors: List[str] = []
+        self.asked: List[str] = []
         nowhere = {"stdin": subprocess.DEVNULL, "stderr": subprocess.DEVNULL}
         reader, writer = os.pipe()
-        self.display = subprocess.Popen(["Xvfb", "-displayfd", str(writer), "-screen", "0", "1280x900x24", "-nolisten", "tcp"],
-                                        pass_fds=[writer], stdout=subprocess.DEVNULL, **nowhere)  # type: ignore
+        self.display = subprocess.Popen(
+            ["Xvfb", "-displayfd", str(writer), "-screen", "0", "1280x900x24", "-nolisten", "tcp"], pass_fds=[writer], stdout=subprocess.DEVNULL, **nowhere
+        )  # type: ignore
         os.close(writer)
         with os.fdopen(reader) as number:
             name = ":" + number.readline().strip()
         self.port = free_port()
-        self.driver = subprocess.Popen([DRIVER, f"--port={self.port}"], env={**os.environ, "DISPLAY": name, "WEBKIT_DISABLE_COMPOSITING_MODE": "1"},
-                                       stdout=subprocess.DEVNULL, **nowhere)  # type: ignore
+        self.driver = subprocess.Popen(
+            [DRIVER, f"--port={self.port}"], env={**os.environ, "DISPLAY": name, "WEBKIT_DISABLE_COMPOSITING_MODE": "1"}, stdout=subprocess.DEVNULL, **nowhere
+        )  # type: ignore
         self.begin()
 
     def begin(self) -> None:
@@ -72,8 +75,9 @@ class WebKit:
 
     def value(self, expression: str) -> Any:
         """The value of an expression, or of what it promises."""
-        script = f"const done = arguments[arguments.length - 1]; Promise.resolve().then(() => ({expression}))" \
-                 ".then((value) => done([value]), (error) => done([null, String(error)]));"
+        script = (
+            f"const done = arguments[arguments.length - 1]; Promise.resolve().then(() => ({expression})).then((value) => done([value]), (error) => done([null, String(error)]));"
+        )
         found = self.on("POST", "/execute/async", script=script, args=[])
         if len(found) > 1:
             raise RuntimeError(found[1])
@@ -81,6 +85,14 @@ class WebKit:
 
     def open(self, path: pathlib.Path) -> None:
         self.on("POST", "/url", url=f"file://{path.resolve()}")
+
+    def press(self, *names: str) -> None:
+        """Presses keys by their names."""
+        self.on("POST", "/actions", actions=strokes(*names))
+
+    def write(self, text: str) -> None:
+        """Types a text where the focus is."""
+        self.press(*letters(text))
 
     def window(self, handle: str = "") -> str:
         """Goes to a window, or opens another one; its name."""

@@ -1,5 +1,5 @@
 #!/usr/bin/env python3
-"""Replays docs/COURSE.md at a pseudo terminal, as a person types it, and reports what is shown differently.
+"""Replays a page, docs/COURSE.md if none is named, at a pseudo terminal, as a person types it, and reports what is shown differently.
 
     tests/sessions/course_terminal.py FORTH FORTH83 SHARE
 
@@ -16,14 +16,14 @@ import tempfile
 from typing import Dict, List
 
 import sessions
-from session_terminals import Terminal, types
+from session_terminals import Terminal, types, Wrong
 
 
 class Replay:
-    """The course in a folder: its shell's lines, and what is typed at the Forth between them."""
+    """A page in a folder: its shell's lines, and what is typed at the Forth between them."""
 
-    def __init__(self, room: pathlib.Path, commands: Dict[str, str]) -> None:
-        self.room, self.commands, self.wrong, self.count = room, commands, 0, 0
+    def __init__(self, page: str, room: pathlib.Path, commands: Dict[str, str]) -> None:
+        self.page, self.room, self.commands, self.wrong, self.count = page, room, commands, 0, 0
 
     def shell(self, line: str) -> List[str]:
         """What a line of the shell shows, with the commands as they are here."""
@@ -35,7 +35,7 @@ class Replay:
     def compare(self, step: sessions.Step, got: List[str]) -> None:
         """Counts a line, and reports it if it shows something else."""
         self.count += 1
-        self.wrong |= sessions.differs("docs/COURSE.md at a terminal", step, got)
+        self.wrong |= sessions.differs(f"{self.page} at a terminal", step, got)
 
     def run(self, steps: List[sessions.Step]) -> None:
         """Does all steps."""
@@ -53,19 +53,18 @@ class Replay:
                     self.compare(inside, types(terminal, inside))
             terminal.is_ready()
             terminal.keys("BYE\r")
-            terminal.status()
+            if terminal.status():
+                raise Wrong(f"{self.page}: a session ends with another status than 0")
 
 
-def check(forth: str, forth83: str, share: pathlib.Path, at_least: int = 100) -> int:
-    """1 if the course shows something else at a terminal than its page says, or has fewer lines than that."""
-    page = (sessions.ROOT / "docs/COURSE.md").read_text(encoding="utf-8")
-    commands = {"./forth83": forth83, "./forth": forth, "screens/course/course.txt": f"{share}/screens/course/course.txt",
-                "examples/draw.txt": f"{share}/examples/draw.txt"}
+def check(forth: str, forth83: str, share: pathlib.Path, page: str = "docs/COURSE.md", at_least: int = 100) -> int:
+    """1 if something else is shown at a terminal than the page says, or if the page has fewer lines than that."""
+    commands = {"./forth83": forth83, "./forth": forth, "screens/course/course.txt": f"{share}/screens/course/course.txt", "examples/draw.txt": f"{share}/examples/draw.txt"}
     with tempfile.TemporaryDirectory() as room:
-        replay = Replay(pathlib.Path(room), commands)
-        replay.run(sessions.steps_of(page))
+        replay = Replay(page, pathlib.Path(room), commands)
+        replay.run(sessions.steps_of((sessions.ROOT / page).read_text(encoding="utf-8")))
     if replay.count < at_least:
-        print(f"docs/COURSE.md: {replay.count} lines were replayed at a terminal", file=sys.stderr)
+        print(f"{page}: {replay.count} lines were replayed at a terminal", file=sys.stderr)
         return 1
     return replay.wrong
 

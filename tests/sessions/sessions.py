@@ -9,7 +9,7 @@ makes of the program.
 - A line after `>` is typed there. One after `>>` is typed, too, as the answer to a question; after `>>>` are keys
   without a return.
 - What is shown is below. If nothing is below a line after `>`, the Forth must answer ok, and nothing else; only BYE shows nothing.
-  Control sequences of a terminal (`ESC [`) and blanks at line ends are left out.
+  Control sequences of a terminal (`ESC [`) and blanks at line ends are left out. ` ..` stands for more of that line.
 """
 import os
 import pathlib
@@ -21,6 +21,7 @@ import tempfile
 from typing import Iterable, List
 
 ROOT = pathlib.Path(__file__).resolve().parents[2]
+CONTROLS = re.compile(r"\x1b\[[0-9;?]*[A-Za-z]")  # sequences of a terminal
 sys.path.append(str(ROOT / "commands"))
 
 import glossary  # noqa: E402
@@ -29,6 +30,20 @@ import typed_sessions  # noqa: E402
 sys.path.append(str(ROOT / "page"))
 
 import module  # noqa: E402
+
+
+# What README types first.
+README = [
+    "3 4 + .",
+    ": SQUARE ( n -- n*n ) DUP * ;",
+    ": SQUARES ( n -- ) 0 DO I SQUARE . LOOP ;",
+    "8 SQUARES",
+    "1 2 3 .S",
+    "+ + .",
+    "SEE SQUARE",
+    "1 0 /",
+    "8 SQUARE FOO",
+]
 
 
 class Step:
@@ -62,17 +77,23 @@ def answer_in(text: str) -> List[str]:
     return [first.lstrip(), *rest] if first else rest
 
 
-def parted(steps: List[Step], output: str) -> List[List[str]]:
-    """What was shown after each line that was typed: each begins a line of the output, and has a blank after it."""
-    at, shown = 0, []
-    for step, following in zip(steps, steps[1:] + [None]):
-        at += len(step.typed)
-        end = output.find(f"\n{following.typed} ", at) if following else len(output)
-        end = output.find(f"{following.typed} ", at) - 1 if following and end < 0 else end  # after QUIT no line begins
+def shown_by_line(typed: List[str], output: str) -> List[str]:
+    """What was shown after each line that was typed: each begins a line of the output, and has a blank after it. Control sequences are left out."""
+    output, at, shown = CONTROLS.sub("", output), 0, []
+    for line, following in zip(typed, [*typed[1:], None]):
+        found = output.find(line, at)
+        at = found + len(line) if found >= 0 else len(output)
+        end = output.find(f"\n{following} ", at) if following is not None else len(output)
+        end = output.find(f"{following} ", at) - 1 if end < 0 else end  # after QUIT no line begins
         end = len(output) if end < 0 else end
-        shown.append(answer_in(output[at:end]))
-        at = end + 1
+        shown.append(output[at:end])
+        at = end
     return shown
+
+
+def parted(steps: List[Step], output: str) -> List[List[str]]:
+    """The lines that were shown after each step."""
+    return [answer_in(shown) for shown in shown_by_line([step.typed for step in steps], output)]
 
 
 class Folder:
@@ -112,12 +133,12 @@ class Folder:
         if not pathlib.Path(self.room, blocks).exists():
             shutil.copy(f"{self.room}/kernel", f"{self.room}/{blocks}")
         output = self.typed(blocks, "".join(f"{step.typed}\n{step.answers}" for step in steps))
-        return parted(steps, re.sub(r"\x1b\[[0-9;]*[A-Za-z]", "", output))
+        return parted(steps, output)
 
 
 def differs(page: str, step: Step, got: List[str]) -> int:
     got = [line.rstrip() for line in got]
-    if step.shown == got:
+    if re.fullmatch(re.escape("".join(f"{line}\n" for line in step.shown)).replace(r"\ \.\.", ".+"), "".join(f"{line}\n" for line in got)):
         return 0
     print(f"{page}: {step.typed}\n  wanted {step.shown}\n  got    {got}", file=sys.stderr)
     return 1

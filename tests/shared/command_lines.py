@@ -24,8 +24,7 @@ def read(doc: Optional[str], count: Optional[Count] = None) -> Asked:
     words = argparse.ArgumentParser(description=(doc or "").partition("\n\n")[0])
     words.add_argument("program", type=pathlib.Path, metavar="PROGRAM", help="a built forth83, proved or not")
     if count:
-        words.add_argument("count", type=int, nargs="?", default=count.default, metavar=count.name,
-                           help=f"{count.what} [default: {count.default}]")
+        words.add_argument("count", type=int, nargs="?", default=count.default, metavar=count.name, help=f"{count.what} [default: {count.default}]")
     asked = words.parse_args()
     if not asked.program.is_file():
         words.error(f"there is no program {asked.program}")

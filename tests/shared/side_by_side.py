@@ -28,27 +28,24 @@ class Ended(NamedTuple):
         return "\n".join([f"test: {line}", *said, *took, *failed])
 
 
-class Runner:
-    """Runs commands, and shows each as a whole when it has ended."""
+SHOWING = threading.Lock()
 
-    def __init__(self) -> None:
-        self.showing = threading.Lock()
 
-    def run(self, words: List[str]) -> Ended:
-        """Runs one."""
-        began = time.monotonic()
-        try:
-            made = subprocess.run(words, stdin=subprocess.DEVNULL, stdout=subprocess.PIPE, stderr=subprocess.STDOUT, check=False)
-            status, printed = made.returncode, made.stdout.decode(errors="replace")
-        except OSError as error:
-            status, printed = 127, str(error)
-        ended = Ended(words, status, printed, time.monotonic() - began)
-        with self.showing:
-            print(ended.report(), flush=True)
-        return ended
+def run(words: List[str]) -> Ended:
+    """Runs a command, and shows it as a whole when it has ended."""
+    began = time.monotonic()
+    try:
+        made = subprocess.run(words, stdin=subprocess.DEVNULL, stdout=subprocess.PIPE, stderr=subprocess.STDOUT, check=False)
+        status, printed = made.returncode, made.stdout.decode(errors="replace")
+    except OSError as error:
+        status, printed = 127, str(error)
+    ended = Ended(words, status, printed, time.monotonic() - began)
+    with SHOWING:
+        print(ended.report(), flush=True)
+    return ended
 
 
 def run_all(commands: Sequence[List[str]], at_once: int = 0) -> List[Ended]:
     """Runs these commands, so many at once, in their order. All of them are run, also if one fails."""
     with concurrent.futures.ThreadPoolExecutor(at_once or len(os.sched_getaffinity(0))) as pool:
-        return list(pool.map(Runner().run, commands))
+        return list(pool.map(run, commands))

@@ -22,8 +22,11 @@ CASES: Tuple[Tuple[str, str, int], ...] = (
 
 def wrong() -> List[str]:
     """What of the cases, of the folders and of the limits isn't as it was counted by hand."""
-    missed = [f"case {text!r} of {name}: {sum(english.count(name, text).values())} words, and not {number}"
-              for name, text, number in CASES if sum(english.count(name, text).values()) != number]
+    missed = [
+        f"case {text!r} of {name}: {sum(english.count(name, text).values())} words, and not {number}"
+        for name, text, number in CASES
+        if sum(english.count(name, text).values()) != number
+    ]
     sums = english.by_folder({"a/b.md": {"behind": 2}, "a/c.md": {"begun": 1}, "d.md": {"slip": 1}})
     if sums != {"a": 3, ".": 1}:
         missed.append(f"the sums of folders are {sums}")

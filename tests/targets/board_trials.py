@@ -13,7 +13,7 @@ from typing import Callable, List, Optional
 
 import sessions
 from noisy_line import NoisyLine
-from session_terminals import Terminal, types, Wrong
+from session_terminals import environment, launcher, Terminal, types, Wrong
 from target_runs import build, Place, ROOT
 
 sys.path.insert(0, str(ROOT / "commands"))
@@ -24,11 +24,6 @@ Must = Callable[[bool, str], object]
 EXAMPLE = ROOT / "examples/board"
 RAM_BEGINS, RAM, STACK, ONE_IN = 0x21000000, 166 << 10, 88 << 10, 1000
 PAINT = b"\xa5"  # what memory holds that was never written
-# The first session of README, as it is typed.
-README = [
-    "3 4 + .", ": SQUARE ( n -- n*n ) DUP * ;", ": SQUARES ( n -- ) 0 DO I SQUARE . LOOP ;", "8 SQUARES", "1 2 3 .S", "+ + .",
-    "SEE SQUARE", "1 0 /", "8 SQUARE FOO",
-]
 # A program in three screens; what it shows was worked out by hand.
 SCREENS = """% screen 30
 ( A counter that steps by itself )
@@ -66,16 +61,12 @@ def readme_steps() -> List[sessions.Step]:
     text = (ROOT / "README.md").read_text(encoding="utf-8").partition("$ ./forth\n")[2].partition("\n\n")[0]
     steps: List[sessions.Step] = []
     for line in (line[4:] for line in text.splitlines()[2:]):
-        if len(steps) < len(README) and line.startswith(README[len(steps)]):
-            steps.append(sessions.Step(README[len(steps)], False))
+        if len(steps) < len(sessions.README) and line.startswith(sessions.README[len(steps)]):
+            steps.append(sessions.Step(sessions.README[len(steps)], False))
             line = line[len(steps[-1].typed) :].strip()
         if line:
             steps[-1].shown.append(line.rstrip())
     return steps
-
-
-def host(program: pathlib.Path) -> List[str]:
-    return [sys.executable, "-I", "-S", "-B", str(ROOT / "commands/launch"), "--program", str(program)]
 
 
 def made(place: Place, program: pathlib.Path, what: str, *options: str) -> pathlib.Path:
@@ -86,7 +77,7 @@ def made(place: Place, program: pathlib.Path, what: str, *options: str) -> pathl
     shutil.copytree(ROOT / "build/targets/include", room / "library/include", dirs_exist_ok=True)
     for name in os.listdir(EXAMPLE):
         shutil.copy(EXAMPLE / name, room)
-    subprocess.run([*host(program), "--image", room / "board.img", "-e", "REQUIRE board.fs"], stderr=subprocess.DEVNULL, check=True)
+    subprocess.run([*launcher(program), "--image", room / "board.img", "-e", "REQUIRE board.fs"], stderr=subprocess.DEVNULL, check=True)
     build(["make", "-B", "-C", room, *options, what])
     return room / what
 
@@ -111,14 +102,13 @@ class Board:
         self.room = program_of_board.parent
         self._monitor, painted = self.room / "monitor", self.room / "painted"
         painted.write_bytes(PAINT * ram)
-        self._process = subprocess.Popen(
-            ["qemu-system-arm", "-M", "mps2-an385", "-display", "none", "-monitor", f"unix:{self._monitor},server,nowait",
-             "-serial", "stdio", "-kernel", program_of_board, "-device", f"loader,file={painted},addr={RAM_BEGINS},force-raw=on"],
-            stdin=subprocess.PIPE, stdout=subprocess.PIPE)
+        emulator = "qemu-system-arm -M mps2-an385 -display none -serial stdio".split()
+        loaded = ["-kernel", program_of_board, "-device", f"loader,file={painted},addr={RAM_BEGINS},force-raw=on"]
+        words = [*emulator, "-monitor", f"unix:{self._monitor},server,nowait", *loaded]
+        self._process = subprocess.Popen(words, stdin=subprocess.PIPE, stdout=subprocess.PIPE)
         assert self._process.stdin and self._process.stdout
         self.line = NoisyLine(self._process.stdout.fileno(), self._process.stdin.fileno(), ONE_IN, 83)
-        changes = {"TERM": "xterm", "HOME": str(self.room), "FORTH_HISTORY": "", "LC_ALL": "C.UTF-8"}
-        self.host, self._environment = host(program), {**os.environ, **changes}
+        self.host, self._environment = launcher(program), environment(self.room, FORTH_HISTORY="")
 
     def session(self) -> Terminal:
         terminal = Terminal([*self.host, "--target", self.line.name, "b.blk"], self.room, self._environment)
@@ -128,8 +118,9 @@ class Board:
     def script(self, *words: str, target: Optional[str] = None) -> "subprocess.CompletedProcess[str]":
         """Runs a script on the board, or with an empty target here."""
         on_board = ["--target", self.line.name] if target is None else []
-        return subprocess.run([*self.host, *on_board, *words], cwd=self.room, env=self._environment, text=True,
-                              stdin=subprocess.DEVNULL, stdout=subprocess.PIPE, stderr=subprocess.PIPE, check=False)
+        return subprocess.run(
+            [*self.host, *on_board, *words], cwd=self.room, env=self._environment, text=True, stdin=subprocess.DEVNULL, stdout=subprocess.PIPE, stderr=subprocess.PIPE, check=False
+        )
 
     def heard(self, seconds: float) -> bytes:
         """What the board sends in this time while nobody speaks with it."""
@@ -230,6 +221,7 @@ def image_in_flash(board: Board, must: Must) -> None:
 
 def check_board(must: Must, place: Place, program: pathlib.Path, ram: int = RAM, stack: int = STACK) -> None:
     """Tries the board with so much RAM."""
+
     def so(is_so: bool, what: str) -> None:
         must(is_so, f"the board: {what}")
 

@@ -5,6 +5,9 @@ import subprocess
 import sys
 from typing import Any, Iterator, List, Tuple
 
+from serve_lists import frame
+from serve_trials import Reply, replies_of
+
 # The statuses of the header for the causes of the server's refusals.
 STATUSES = {4: 15, 5: 16, 6: 17, 7: 18, 8: 19, 9: 20, 10: 21}
 MOST = 2048
@@ -14,8 +17,8 @@ WORDS = [
     b": SQUARE DUP * ;",
     b": SIGN DUP 0< IF DROP -1 ELSE IF 1 ELSE 0 THEN THEN ;",
     b": TRIES 10 0 DO I . LOOP BEGIN KEY 65 = UNTIL ;",
-    b": SAYS .\" HELLO\" ;",
-    b": QUOTED .\" AXB\" ;",
+    b': SAYS ." HELLO" ;',
+    b': QUOTED ." AXB" ;',
     b": HELPER ;",
     b": SHADOWS HELPER ;",
     b": HELPER DUP ;",
@@ -46,39 +49,25 @@ def must(holds: bool, what: str) -> None:
         sys.exit(f"check-embed: {what}")
 
 
-def frame(kind: bytes, body: bytes = b"") -> bytes:
-    """A frame of the server's."""
-    return kind + len(body).to_bytes(2, "little") + body
-
-
-def frames_of(replies: bytes) -> Iterator[Tuple[bytes, bytes]]:
-    """The kind and the bytes of each frame."""
-    at = 0
-    while at < len(replies):
-        size = int.from_bytes(replies[at + 1 : at + 3], "little")
-        yield replies[at : at + 1], replies[at + 3 : at + 3 + size]
-        at += 3 + size
-
-
-def whole(frames: Iterator[Tuple[bytes, bytes]], is_long: bool) -> Tuple[int, bytes]:
+def whole(frames: Iterator[Reply], is_long: bool) -> Tuple[int, bytes]:
     """The status for the next reply, and its bytes, without what the machine shows; a long one goes on up to a frame that is not full."""
     kind, body = next(frames)
-    while kind == b"s":
+    while kind == "s":
         kind, body = next(frames)
-    if kind == b"!":
+    if kind == "!":
         return STATUSES[body[0]], b""
     text = body
     while is_long and len(body) == MOST:
-        body = next(frames)[1]
+        body = next(frames).body
         text += body
     return 0, text
 
 
 def replies(program: pathlib.Path, image: pathlib.Path, asked: List[Tuple[bytes, bytes]]) -> List[Tuple[int, bytes]]:
     """What the server replies to these requests, each as a status and bytes. Cells that are written, runs and lines have no reply here."""
-    given = b"".join(frame(kind, body) for kind, body in asked)
+    given = b"".join(frame(ord(kind), body) for kind, body in asked)
     made = subprocess.run([program, "serve", image], input=given, stdout=subprocess.PIPE, check=True)
-    frames = frames_of(made.stdout)
+    frames = iter(replies_of(made.stdout))
     got = [whole(frames, kind in LONG) for kind, _body in asked]
     must(next(frames, None) is None, "the server replied to more than was asked")
     return [reply for reply, (kind, _body) in zip(got, asked) if kind not in MOVES]
@@ -97,19 +86,12 @@ class Looks:
         must(bytes(self.machine) == before, f"{call.__name__} changed the record")
         return status
 
-    def view(self, name: bytes) -> Tuple[int, bytes]:
-        """forth83_view."""
-        block = ctypes.c_uint16(7)
-        status = self.unchanged(self.calls.forth83_view, name, ctypes.c_uint64(len(name)), ctypes.byref(block))
-        must(status == 0 or block.value == 7, f"a view of {name!r} that was refused")
-        return status, bytes(block) if status == 0 else b""
-
-    def extent(self, name: bytes) -> Tuple[int, bytes]:
-        """forth83_extent."""
-        start, end = ctypes.c_uint16(7), ctypes.c_uint16(8)
-        status = self.unchanged(self.calls.forth83_extent, name, ctypes.c_uint64(len(name)), ctypes.byref(start), ctypes.byref(end))
-        must(status == 0 or (start.value, end.value) == (7, 8), f"an extent of {name!r} that was refused")
-        return status, bytes(start) + bytes(end) if status == 0 else b""
+    def cells(self, call: Any, name: bytes, count: int) -> Tuple[int, bytes]:
+        """forth83_view and forth83_extent, which write so many cells, or none."""
+        found = [ctypes.c_uint16(7) for _ in range(count)]
+        status = self.unchanged(call, name, ctypes.c_uint64(len(name)), *map(ctypes.byref, found))
+        must(status == 0 or all(it.value == 7 for it in found), f"{call.__name__} of {name!r} that was refused")
+        return status, b"".join(map(bytes, found)) if status == 0 else b""
 
     def in_room(self, call: Any, width: int, room: int, *words: Any) -> Tuple[int, bytes]:
         """A call that fills a room of so many cells or bytes from its front on, or leaves it as it was."""
@@ -129,16 +111,15 @@ class Looks:
         return status, got
 
     def headers(self) -> Tuple[int, bytes]:
-        """forth83_headers."""
         return self.fitting(self.calls.forth83_headers, 2)
 
-    def see(self, name: bytes) -> Tuple[int, bytes]:
-        """forth83_see."""
-        return self.fitting(self.calls.forth83_see, 1, name, ctypes.c_uint64(len(name)))
-
     def line(self) -> Tuple[int, bytes]:
-        """forth83_trace_line."""
         return self.fitting(self.calls.forth83_trace_line, 1)
+
+    def word(self, name: bytes) -> List[Tuple[int, bytes]]:
+        """VIEW, where the thread is, and SEE."""
+        see = self.fitting(self.calls.forth83_see, 1, name, ctypes.c_uint64(len(name)))
+        return [self.cells(self.calls.forth83_view, name, 1), self.cells(self.calls.forth83_extent, name, 2), see]
 
     def survey(self, name: bytes, blocks: bytes) -> Tuple[int, bytes, int]:
         """forth83_survey: its status, the report, and the number of the dialect."""
@@ -186,7 +167,7 @@ def compare(program: pathlib.Path, image: pathlib.Path, hosts: Any, cells: List[
     wanted = replies(program, image, asked)
     must(looks.headers() == wanted[0], f"the list of headers: {wanted[0]}")
     for place, name in enumerate(names):
-        got = [looks.view(name), looks.extent(name), looks.see(name)]
+        got = looks.word(name)
         must(got == wanted[3 * place + 1 : 3 * place + 4], f"{name!r}: the library {got}, the server {wanted[3 * place + 1 : 3 * place + 4]}")
     return [status for status, _text in wanted[3::3]]
 
@@ -235,4 +216,4 @@ def check_looks(hosts: Any, program: pathlib.Path, folder: pathlib.Path) -> None
     must(set(found) == {15, 16}, f"statuses of SEE in a circle: {found}")
     machine.asks = 5
     looks = Looks(hosts, machine)
-    must((looks.view(b"DUP"), looks.extent(b"DUP"), looks.see(b"DUP"), looks.headers(), looks.line()) == 5 * ((1, b""),), "words of no machine")
+    must([*looks.word(b"DUP"), looks.headers(), looks.line()] == 5 * [(1, b"")], "words of no machine")

@@ -1,8 +1,7 @@
 """Tries the hosts of examples/ on targets: the test bench and the terminal in pipes, and the terminal at a pseudo terminal."""
 import os
 import pathlib
-import pty
-import select
+import shutil
 import signal
 import subprocess
 import sys
@@ -10,6 +9,7 @@ import termios
 import time
 from typing import Callable, List, Optional
 
+from session_terminals import PATIENCE, Terminal, Wrong
 from target_runs import ROOT, Place
 from terminals import Glass
 
@@ -20,71 +20,57 @@ from served import image as served_image  # type: ignore[import]  # noqa: E402
 Must = Callable[[bool, str], None]
 SCREENS = 8
 LINES = b": SQUARE DUP * ;\n12 SQUARE .\n3 BLOCK C@ . 5 BUFFER 1024 66 FILL UPDATE\nKEY A .\n1 0 /\n99 BLOCK\n5 .\n"
-LIMIT = 20
 LISTS = 24  # of frames, for each server
+# What a person types at the terminal, and what must be shown then: lines with deleted bytes, ^C in a line and in a loop, a key; then a block.
+STEPS = [
+    ("3 4 + .\r", "7  ok"),
+    ("12 DUPX\x7f * .\r", "144  ok"),
+    ("NOWORD\x155 .\r", "5 . 5  ok"),
+    ("NOWORD\x036 .\r", "6 . 6  ok"),
+    (": K KEY . ; K\r", "K "),
+    ("A", "65  ok"),
+    (": L 42 EMIT BEGIN AGAIN ; L\r", "; L *"),
+    ("\x03", "\n"),
+    ("7 .\r", "7 . 7  ok"),
+    ("2 BLOCK 1024 66 FILL UPDATE\r", "ok"),
+]
+SEEN = ["3 4 + . 7  ok", "12 DUP * . 144  ok", "5 . 5  ok", "6 . 6  ok", ": K KEY . ; K 65  ok", ": L 42 EMIT BEGIN AGAIN ; L *", "7 . 7  ok"]
 
 
-class Session:
-    """A program at a pseudo terminal."""
+class Session(Terminal):
+    """A session of the terminal over the file pty.blk, which starts where the terminal's own echo is off."""
 
-    def __init__(self, command: List[str], room: pathlib.Path) -> None:
-        self.shown, self.seen, self.status = b"", 0, -1
-        self.pid, self.terminal = pty.fork()
-        if self.pid == 0:
-            os.chdir(room)
-            os.execvp(command[0], command)
-
-    def is_ready(self) -> bool:
-        """Whether the program has switched the terminal's own echo off, in time."""
-        until = time.time() + LIMIT
-        while time.time() < until and termios.tcgetattr(self.terminal)[3] & termios.ECHO:
+    def __init__(self, place: Place, terminal: pathlib.Path, image: pathlib.Path, *more: str) -> None:
+        command = place.command(terminal, [image, "pty.blk", *more])
+        super().__init__([shutil.which(command[0]) or command[0], *command[1:]], place.room, dict(os.environ))
+        self.seen, until = b"", time.monotonic() + PATIENCE
+        while termios.tcgetattr(self.screen)[3] & termios.ECHO:
+            if time.monotonic() > until:
+                raise Wrong("the terminal's own echo stays on")
             time.sleep(0.02)
-        return time.time() < until
 
-    def read(self, seconds: float) -> bool:
-        """Reads what the program shows within this time; whether it goes on."""
-        if not select.select([self.terminal], [], [], seconds)[0]:
-            return True
-        try:
-            part = os.read(self.terminal, 65536)
-        except OSError:
-            part = b""
-        self.shown += part
-        return bool(part)
+    def types(self, keys: str, wanted: str) -> None:
+        """Types keys, after which this must be shown."""
+        self.keys(keys)
+        self.seen += (self.until(wanted) + wanted).encode()
 
-    def types(self, keys: bytes, wanted: bytes) -> bool:
-        """Types keys; whether what is wanted is shown after them, in time."""
-        os.write(self.terminal, keys)
-        until = time.time() + LIMIT
-        while time.time() < until:
-            at = self.shown.find(wanted, self.seen)
-            if at >= 0:
-                self.seen = at + len(wanted)
-                return True
-            if not self.read(0.2):
-                return False
-        return False
+    def closed(self) -> int:
+        """The status with which it ends when the terminal is closed, in time; it is killed otherwise."""
+        os.close(self.screen)
+        until = time.monotonic() + PATIENCE
+        while time.monotonic() < until:
+            ended, status = os.waitpid(self.process, os.WNOHANG)
+            if ended:
+                return status
+            time.sleep(0.05)
+        os.kill(self.process, signal.SIGKILL)
+        return os.waitpid(self.process, 0)[1]
 
     def rows(self) -> List[str]:
         """What is seen on the terminal."""
         glass = Glass(80)
-        glass.shows(self.shown)
+        glass.shows(self.seen)
         return glass.seen()[0]
-
-    def ends(self) -> int:
-        """The status with which the program ends, in time; it is killed otherwise."""
-        until = time.time() + LIMIT
-        while time.time() < until:
-            pid, status = os.waitpid(self.pid, os.WNOHANG)
-            if pid:
-                return status
-            try:
-                self.read(0.1)
-            except (OSError, ValueError):
-                time.sleep(0.1)
-        os.kill(self.pid, signal.SIGKILL)
-        os.waitpid(self.pid, 0)
-        return -1
 
 
 def blocks_file(program: pathlib.Path, file: pathlib.Path) -> None:
@@ -106,50 +92,57 @@ def check_pipes(must: Must, place: Place, program: pathlib.Path, image: pathlib.
 
 
 def check_pty(must: Must, place: Place, program: pathlib.Path, image: pathlib.Path, terminal: pathlib.Path) -> None:
-    """What a person types: lines with deleted bytes, a key, ^C in a line and in a loop, BYE; then a terminal that is closed."""
+    """What a person types, and BYE; a terminal that is closed; a fault that halts, and the next session."""
+
     def so(is_so: bool, what: str) -> None:
-        must(is_so, f"{place.target}: the terminal: {what}: {session.rows() if not is_so else ''}")
+        must(is_so, f"{place.target}: the terminal: {what}")
 
     blocks_file(program, place.room / "pty.blk")
-    session = Session(place.command(terminal, [image, "pty.blk", "--save", "saved.img"]), place.room)
-    so(session.is_ready() and session.types(b"3 4 + .\r", b"7  ok"), "a line")
-    so(session.types(b"12 DUPX\x7f * .\r", b"144  ok"), "a deleted byte")
-    so(session.types(b"NOWORD\x155 .\r", b"5 . 5  ok"), "^U")
-    so(session.types(b"NOWORD\x036 .\r", b"6 . 6  ok"), "^C in a line")
-    so(session.types(b": K KEY . ; K\r", b"K "), "a word that asks for a key")
-    so(session.types(b"A", b"65  ok"), "the key")
-    so(session.types(b": L 42 EMIT BEGIN AGAIN ; L\r", b"; L *"), "a loop")
-    so(session.types(b"\x03", b"\n") and session.types(b"7 .\r", b"7 . 7  ok"), "^C in the loop")
-    so(session.types(b"2 BLOCK 1024 66 FILL UPDATE\r", b"ok"), "a block")
-    wanted = ["3 4 + . 7  ok", "12 DUP * . 144  ok", "5 . 5  ok", "6 . 6  ok", ": K KEY . ; K 65  ok", ": L 42 EMIT BEGIN AGAIN ; L *", "7 . 7  ok"]
-    so(session.rows()[:7] == wanted, "what is seen")
-    os.write(session.terminal, b"BYE\r")
-    so(session.ends() == 0, "BYE")
-    so((place.room / "pty.blk").read_bytes()[2048:3072] == b"B" * 1024, "the block after BYE")
-    check_saved(so, place, terminal)
-    session = Session(place.command(terminal, [image, "pty.blk"]), place.room)
-    so(session.is_ready() and session.types(b"3 BLOCK 1024 67 FILL UPDATE 1 . : L BEGIN AGAIN ; L\r", b"; L 1 "), "a loop after a block")
-    os.close(session.terminal)
-    so(session.ends() == 0, "a closed terminal")
-    so((place.room / "pty.blk").read_bytes()[3072:4096] == b"C" * 1024, "the block after the terminal was closed")
-    session = check_fault(so, place, terminal, image)
-    so(session.is_ready() and session.types(b"y", b"pty.blk.journal.old now") and session.types(b"4 BLOCK C@ .\r", b"68"), "the journal")
-    os.write(session.terminal, b"\4")
-    so(session.ends() == 0 and (place.room / "pty.blk").read_bytes()[4096:5120] == b"D" * 1024, "the block after the journal was taken")
+    try:
+        check_keys(so, place, terminal, image)
+        check_saved(so, place, terminal)
+        session = Session(place, terminal, image)
+        session.types("3 BLOCK 1024 67 FILL UPDATE 1 . : L BEGIN AGAIN ; L\r", "; L 1 ")
+        so(session.closed() == 0 and block(place, 3) == b"C" * 1024, "the block after the terminal was closed")
+        check_fault(so, place, terminal, image)
+    except (Wrong, OSError) as error:
+        so(False, str(error))
 
 
-def check_fault(so: Must, place: Place, terminal: pathlib.Path, image: pathlib.Path) -> Session:
-    """A fault that halts leaves the blocks to a journal, and meanwhile no other session has the file; the next session."""
-    command = place.command(terminal, [image, "pty.blk"])
-    session, before = Session(command, place.room), (place.room / "pty.blk").read_bytes()
-    so(session.is_ready() and session.types(b"4 BLOCK 1024 68 FILL UPDATE\r", b"ok"), "a block before a fault")
-    second = subprocess.run(command, cwd=place.room, stdin=subprocess.DEVNULL, stdout=subprocess.PIPE, stderr=subprocess.PIPE, check=False)
-    so(second.returncode == 1 and b"another run has it" in second.stderr, f"a second session: {second.stderr!r}")
-    os.write(session.terminal, b"0 40 ! 1 0 /\r")
-    so(os.WEXITSTATUS(session.ends()) == 3 and (place.room / "pty.blk").read_bytes() == before, "the blocks after a fault")
-    piped = subprocess.run(command, cwd=place.room, stdin=subprocess.DEVNULL, stdout=subprocess.PIPE, stderr=subprocess.PIPE, check=False)
-    so(piped.returncode == 1 and b"pty.blk.journal has blocks" in piped.stderr, f"a pipe beside a journal: {piped.stderr!r}")
-    return Session(command, place.room)
+def block(place: Place, number: int) -> bytes:
+    """A block of the file."""
+    return (place.room / "pty.blk").read_bytes()[1024 * number : 1024 * (number + 1)]
+
+
+def check_keys(so: Must, place: Place, terminal: pathlib.Path, image: pathlib.Path) -> None:
+    """The steps, and BYE, which keeps the blocks and an image."""
+    session = Session(place, terminal, image, "--save", "saved.img")
+    for keys, wanted in STEPS:
+        session.types(keys, wanted)
+    so(session.rows()[:7] == SEEN, f"what is seen: {session.rows()}")
+    session.keys("BYE\r")
+    so(session.status() == 0 and block(place, 2) == b"B" * 1024, "the block after BYE")
+
+
+def check_fault(so: Must, place: Place, terminal: pathlib.Path, image: pathlib.Path) -> None:
+    """A fault that halts leaves the blocks to a journal, and meanwhile no other session has the file; the next session takes it."""
+
+    def refused(said: bytes) -> None:
+        done = subprocess.run(command, cwd=place.room, stdin=subprocess.DEVNULL, stdout=subprocess.PIPE, stderr=subprocess.PIPE, check=False)
+        so(done.returncode == 1 and said in done.stderr, f"{said!r}: {done.stderr!r}")
+
+    command, before = place.command(terminal, [image, "pty.blk"]), (place.room / "pty.blk").read_bytes()
+    session = Session(place, terminal, image)
+    session.types("4 BLOCK 1024 68 FILL UPDATE\r", "ok")
+    refused(b"another run has it")
+    session.keys("0 40 ! 1 0 /\r")
+    so(session.status() == 3 and (place.room / "pty.blk").read_bytes() == before, "the blocks after a fault")
+    refused(b"pty.blk.journal has blocks")
+    session = Session(place, terminal, image)
+    session.types("y", "pty.blk.journal.old now")
+    session.types("4 BLOCK C@ .\r", "68")
+    session.keys("\4")
+    so(session.status() == 0 and block(place, 4) == b"D" * 1024, "the block after the journal was taken")
 
 
 def check_saved(so: Must, place: Place, terminal: pathlib.Path) -> None:

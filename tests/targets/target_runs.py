@@ -27,12 +27,6 @@ class Runner(NamedTuple):
     ram: int = 0
 
 
-def first_program() -> str:
-    """The program in C with which docs/EMBEDDING.md begins."""
-    text = (ROOT / "docs/EMBEDDING.md").read_text(encoding="utf-8")
-    return "".join(f"{line[4:]}\n" for line in text[text.index("    #include") :].split("\n\n")[0].split("\n"))
-
-
 def board(processor: str, machine: str, ram: int, *options: str) -> Runner:
     """A bare board, of which the emulator has its files and words."""
     compiler = ["arm-none-eabi-gcc", f"-mcpu={processor}", "-mthumb", *options]
@@ -107,15 +101,15 @@ class Place:
         if not self.runner.board:
             return self.compile("trial", [TRIAL / "trial.c"], *(["-Wl,--stack,2097152"] if self.target.endswith("windows") else []))
         strict = ["-DSTRICT"] if self.target == "cortex-m0" else []
-        return self.compile("trial", [TRIAL / "trial.c", TRIAL / "start.c"], *strict, "--specs=rdimon.specs", "-nostartfiles",
-                            "-T", str(ROOT / "examples/board/board.ld"), f"-Wl,--defsym=RAM_BEGIN={self.runner.ram:#x}",
-                            "-Wl,--defsym=RAM_SIZE=15M", "-Wl,--gc-sections", "-Wl,--no-warn-rwx-segments")
+        script = ["--specs=rdimon.specs", "-nostartfiles", "-T", str(ROOT / "examples/board/board.ld")]
+        linked = f"-Wl,--defsym=RAM_BEGIN={self.runner.ram:#x} -Wl,--defsym=RAM_SIZE=15M -Wl,--gc-sections -Wl,--no-warn-rwx-segments"
+        return self.compile("trial", [TRIAL / "trial.c", TRIAL / "start.c"], *strict, *script, *linked.split())
 
     def compile_for_web(self) -> pathlib.Path:
         """Compiles the trial as a WebAssembly module."""
         made, exports = self.room / "trial.o", ["malloc", "trial_digest", "trial_record", "trial_continue", "trial_shown"]
-        build([libraries.tool("clang"), f"--target={libraries.TARGETS['wasm32'].triple}", *STRICT, "-ffreestanding", "-DBARE", "-isystem",
-               TRIAL / "include", f"-I{ROOT / 'build/targets/include'}", "-c", TRIAL / "trial.c", "-o", made])
+        clang = [libraries.tool("clang"), f"--target={libraries.TARGETS['wasm32'].triple}", *STRICT, "-ffreestanding", "-DBARE"]
+        build([*clang, "-isystem", TRIAL / "include", f"-I{ROOT / 'build/targets/include'}", "-c", TRIAL / "trial.c", "-o", made])
         return libraries.web_linked(self.room, [made, *self.objects], exports)
 
     def command(self, program: pathlib.Path, words: Sequence[object]) -> List[str]:
@@ -125,8 +119,8 @@ class Place:
             return ["node", str(TRIAL / "trial.mjs"), str(program), *text]
         if self.runner.board:
             asked = "".join(f",arg={word}" for word in ["trial", *text])
-            return ["qemu-system-arm", "-M", self.runner.board, "-nographic", "-monitor", "none", "-serial", "none",
-                    "-semihosting-config", f"enable=on,target=native{asked}", "-kernel", str(program)]
+            options = f"-M {self.runner.board} -nographic -monitor none -serial none".split()
+            return ["qemu-system-arm", *options, "-semihosting-config", f"enable=on,target=native{asked}", "-kernel", str(program)]
         return [*self.runner.runs, str(program), *text]
 
     def starter(self, program: pathlib.Path) -> pathlib.Path:
@@ -139,8 +133,9 @@ class Place:
 
     def run(self, program: pathlib.Path, words: Sequence[object], typed: bytes = b"", room: Optional[pathlib.Path] = None) -> bytes:
         """What a program shows."""
-        done = subprocess.run(self.command(program, words), input=typed, stdout=subprocess.PIPE, stderr=subprocess.PIPE, cwd=room or self.room,
-                              env={**os.environ, **self.settings}, check=False)
+        done = subprocess.run(
+            self.command(program, words), input=typed, stdout=subprocess.PIPE, stderr=subprocess.PIPE, cwd=room or self.room, env={**os.environ, **self.settings}, check=False
+        )
         if done.returncode:
             said = (done.stdout + done.stderr).decode(errors="replace")[-500:]
             sys.exit(f"check-targets: {self.target}: {program.name} {' '.join(map(str, words))}: status {done.returncode}: {said}")

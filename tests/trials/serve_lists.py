@@ -8,10 +8,41 @@ from typing import Callable, Dict, List, Tuple
 Server = Callable[[Path, Path, bytes], Tuple[bytes, bytes]]
 
 WORDS = ("DUP", "SWAP", "QUIT", "COLD", "LOAD", "THRU", "FORTH", "SQ", "SPACES", ".", "D.R", "NOPE", "", "(LIT)", "x" * 40, "FORTH-83", "INTERPRET")
-LINES = (": SQ DUP * ;", "7 SQ .", "1 2 3 . . .", "1 0 /", "NOPE", ": X 1 ;  : X 2 ; X .", "1 LOAD", "2 LOAD 3 BLOCK DROP UPDATE", "FLUSH",
-         "100 0 DO I . LOOP", "HERE 2000 TYPE", "0 60000 TYPE", ": L BEGIN AGAIN ;", "L", "KEY .", "TIB 20 EXPECT", "BYE", "5 BLOCK 16 TYPE",
-         "1 BLOCK DROP UPDATE 2 BLOCK DROP UPDATE 9 BLOCK", "40 BLOCK DROP", ": T 1 ABORT\" bad\" ; T", "-1 40 !  NOPE", "0 40 ! NOPE", "VARIABLE V 3 V !",
-         "70000. D.", "HEX FF . DECIMAL", "SAVE-BUFFERS", "EMPTY-BUFFERS", "3 SCR ! 0 PUT hi", "", "    ", "FORGET SQ", "1 BASE ! 5")
+LINES = (
+    ": SQ DUP * ;",
+    "7 SQ .",
+    "1 2 3 . . .",
+    "1 0 /",
+    "NOPE",
+    ": X 1 ;  : X 2 ; X .",
+    "1 LOAD",
+    "2 LOAD 3 BLOCK DROP UPDATE",
+    "FLUSH",
+    "100 0 DO I . LOOP",
+    "HERE 2000 TYPE",
+    "0 60000 TYPE",
+    ": L BEGIN AGAIN ;",
+    "L",
+    "KEY .",
+    "TIB 20 EXPECT",
+    "BYE",
+    "5 BLOCK 16 TYPE",
+    "1 BLOCK DROP UPDATE 2 BLOCK DROP UPDATE 9 BLOCK",
+    "40 BLOCK DROP",
+    ': T 1 ABORT" bad" ; T',
+    "-1 40 !  NOPE",
+    "0 40 ! NOPE",
+    "VARIABLE V 3 V !",
+    "70000. D.",
+    "HEX FF . DECIMAL",
+    "SAVE-BUFFERS",
+    "EMPTY-BUFFERS",
+    "3 SCR ! 0 PUT hi",
+    "",
+    "    ",
+    "FORGET SQ",
+    "1 BASE ! 5",
+)
 SCREENS = ("1 . 2 .", ": S1 3 4 + . ; S1", "5 BLOCK DROP UPDATE", "NOPE", "1 0 /", "")
 
 
@@ -43,11 +74,19 @@ def name(chance: random.Random) -> bytes:
     return chance.choice(WORDS).encode()
 
 
+# How the kinds that have a body make one.
 REQUESTS: Dict[str, Callable[[random.Random], bytes]] = {
-    "r": limit, "l": line, "k": lambda c: bytes([c.randrange(256)]), "x": lambda c: b"", "u": lambda c: b"", "p": page, "f": lambda c: b"",
-    "w": lambda c: b"", "g": lambda c: b"", "n": cell, "c": lambda c: cell(c) + cell(c), "v": lambda c: b"",
-    "m": lambda c: cell(c) + struct.pack("<H", c.choice((0, 1, 100, 2048, 2049, 65535))), "y": name, "i": name, "z": name, "h": lambda c: b"",
-    "t": cell, "b": lambda c: b"",
+    "r": limit,
+    "l": line,
+    "k": lambda c: bytes([c.randrange(256)]),
+    "p": page,
+    "n": cell,
+    "c": lambda c: cell(c) + cell(c),
+    "m": lambda c: cell(c) + struct.pack("<H", c.choice((0, 1, 100, 2048, 2049, 65535))),
+    "y": name,
+    "i": name,
+    "z": name,
+    "t": cell,
 }
 OFTEN = "rrrrrrrrllllllkp" + "xufwgncvmyizhtb"
 UNKNOWN = [kind for kind in range(256) if chr(kind) not in "Vadjoq"]
@@ -56,7 +95,7 @@ NEWER = b"GPM"  # kinds that the other server does not know: its reply to them i
 
 def request(chance: random.Random) -> bytes:
     kind = chance.choice(OFTEN)
-    body = REQUESTS[kind](chance)
+    body = REQUESTS[kind](chance) if kind in REQUESTS else b""
     odd = chance.random()
     if odd < 0.02:
         body += bytes(chance.randrange(1, 4))
@@ -79,7 +118,7 @@ def frames(chance: random.Random) -> bytes:
     if chance.random() < 0.4:
         parts.append(frame(ord("q")))
     sent = b"".join(parts)
-    return sent[:chance.randrange(len(sent) + 1)] if chance.random() < 0.3 else sent
+    return sent[: chance.randrange(len(sent) + 1)] if chance.random() < 0.3 else sent
 
 
 def random_image(chance: random.Random) -> bytes:
@@ -88,9 +127,9 @@ def random_image(chance: random.Random) -> bytes:
     memory = bytearray(size)
     for at in range(256, size - 1, 2):
         value = chance.choice((chance.randrange(205), chance.randrange(256, size + 1), chance.randrange(65536)))
-        memory[at:at + 2] = struct.pack("<H", value)
+        memory[at : at + 2] = struct.pack("<H", value)
     for at in range(16, 64, 2):
-        memory[at:at + 2] = struct.pack("<H", chance.choice((0, 42, 256, chance.randrange(size))))
+        memory[at : at + 2] = struct.pack("<H", chance.choice((0, 42, 256, chance.randrange(size))))
     entry = chance.randrange(256, size + 2, 2)
     return b"FTH83IMG" + struct.pack("<HHHH", 2, chance.choice((2, 4, 16)), entry, size) + memory
 
@@ -103,7 +142,15 @@ def by_program(words: List[str]) -> Server:
     def serve(image: Path, block_file: Path, sent: bytes) -> Tuple[bytes, bytes]:
         done = subprocess.run([*words, str(image), str(block_file)], input=sent, stdout=subprocess.PIPE, stderr=subprocess.PIPE, timeout=60, check=False)
         return done.stdout, block_file.read_bytes()
+
     return serve
+
+
+def served(serve: Server, image: bytes, block_bytes: bytes, sent: bytes, top: Path) -> Tuple[bytes, bytes]:
+    """What a server replies to these frames, and what becomes of the block file."""
+    (top / "image").write_bytes(image)
+    (top / "blocks").write_bytes(block_bytes)
+    return serve(top / "image", top / "blocks", sent)
 
 
 def kernel_image(program: str, top: Path) -> bytes:

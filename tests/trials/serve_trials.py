@@ -4,12 +4,12 @@ import struct
 from pathlib import Path
 from typing import Iterator, List, NamedTuple, Optional, Tuple
 
-from serve_lists import Server, frame, made, random_image, request
+from serve_lists import Server, frame, made, random_image, request, served
 
-PREFIX_LISTS = 36   # lists of which every prefix is sent
+PREFIX_LISTS = 36  # lists of which every prefix is sent
 PREFIX_BYTES = 300  # of no more bytes than these
-KEPT_LISTS = 60     # machines that are kept and put back
-LONG = "zhadt"      # replies that go on while their frames are full
+KEPT_LISTS = 60  # machines that are kept and put back
+LONG = "zhadt"  # replies that go on while their frames are full
 FULL = 2048
 
 
@@ -25,20 +25,15 @@ def replies_of(sent: bytes) -> List[Reply]:
         size = struct.unpack_from("<H", sent, 1)[0] if len(sent) > 2 else 0
         if len(sent) < 3 + size:
             return [*found, Reply("", sent)]
-        found.append(Reply(chr(sent[0]), sent[3:3 + size]))
-        sent = sent[3 + size:]
+        found.append(Reply(chr(sent[0]), sent[3 : 3 + size]))
+        sent = sent[3 + size :]
     return found
 
 
 def whole_requests(sent: bytes) -> int:
     """How many whole frames a host sent up to one that ends the list."""
-    count = 0
-    while len(sent) > 2 and len(sent) >= 3 + struct.unpack_from("<H", sent, 1)[0]:
-        count += 1
-        if sent[:3] == b"q\0\0":
-            return count
-        sent = sent[3 + struct.unpack_from("<H", sent, 1)[0]:]
-    return count
+    found, end = [it for it in replies_of(sent) if it.kind], Reply("q", b"")
+    return found.index(end) + 1 if end in found else len(found)
 
 
 def is_last(reply: Reply) -> bool:
@@ -48,12 +43,9 @@ def is_last(reply: Reply) -> bool:
 
 def prefix_fault(serve: Server, image: bytes, sent: bytes, top: Path) -> Optional[str]:
     """What is wrong with the replies to some prefix of a list: each whole frame has its replies, which are those to the whole list."""
-    image_file, block_file = top / "image", top / "blocks"
-    image_file.write_bytes(image)
-    block_file.write_bytes(b"")
-    wanted = serve(image_file, block_file, sent)[0]
+    wanted = served(serve, image, b"", sent, top)[0]
     for size in range(len(sent) + 1):
-        replies, left = serve(image_file, block_file, sent[:size])
+        replies, left = served(serve, image, b"", sent[:size], top)
         last = sum(1 for reply in replies_of(replies) if is_last(reply))
         if not wanted.startswith(replies) or last != whole_requests(sent[:size]) or left:
             return f"after {size} of {len(sent)} bytes"
@@ -81,13 +73,14 @@ def written(memory: bytes, chance: random.Random) -> bytes:
     twice = memory + memory
     while left:
         size = min(left, chance.choice((1, 2, 300, 2000, 2046)) if left < 20000 else 2046)
-        parts.append(frame(ord("M"), struct.pack("<H", at) + twice[at:at + size]))
+        parts.append(frame(ord("M"), struct.pack("<H", at) + twice[at : at + size]))
         at, left = (at + size) % 65536, left - size
     return b"".join(parts)
 
 
 class Kept(NamedTuple):
     """A machine: its registers, its memory, what `v` shows, and what it does next (the letter and the number of `e`)."""
+
     registers: bytes
     memory: bytes
     look: bytes
@@ -108,8 +101,8 @@ def standing_of(registers: Tuple[int, ...]) -> bytes:
     """The letter and the number that belong to registers, unless a fault was just taken."""
     asks, asked, halts, fault = registers[3], registers[4], registers[6], registers[7]
     if halts:
-        return b"-bxyh"[halts:halts + 1] + struct.pack("<H", fault)
-    return b"-klrw"[asks:asks + 1] + struct.pack("<H", asked)
+        return b"-bxyh"[halts : halts + 1] + struct.pack("<H", fault)
+    return b"-klrw"[asks : asks + 1] + struct.pack("<H", asked)
 
 
 def agrees(kept: Kept) -> bool:
@@ -127,14 +120,14 @@ def altered(registers: bytes) -> Iterator[bytes]:
     yield registers + b"\0\0"
     yield registers[:20]
     for place, value in ((1, 2), (3, 5), (6, 5), (8, front[8] + 1), (9, front[9] + 1), (10, count + 1), (8, 257)):
-        yield cells(tuple(front[:place] + [value] + front[place + 1:])) + rest
+        yield cells(tuple(front[:place] + [value] + front[place + 1 :])) + rest
     if not front[1]:
         yield cells(tuple([front[0], 0, 7] + front[3:])) + rest
     if not front[3]:
         yield cells(tuple(front[:5] + [9] + front[6:])) + rest
     if front[6] != 4:
         yield cells(tuple(front[:7] + [3] + front[8:])) + rest
-    yield registers[:-8] + registers[22 + buffers:24 + buffers] + registers[-6:]
+    yield registers[:-8] + registers[22 + buffers : 24 + buffers] + registers[-6:]
     yield registers[:-2] + b"\2\0"
     yield registers[:-8] + cells((count,)) + registers[-6:]
     yield registers[:-6] + cells((0, 0, 1))
@@ -143,10 +136,7 @@ def altered(registers: bytes) -> Iterator[bytes]:
 
 def asked_of(serve: Server, image: bytes, sent: bytes, top: Path) -> List[Reply]:
     """The replies to frames that are sent to an image without blocks."""
-    image_file, block_file = top / "image", top / "blocks"
-    image_file.write_bytes(image)
-    block_file.write_bytes(b"")
-    return replies_of(serve(image_file, block_file, sent)[0])
+    return replies_of(served(serve, image, b"", sent, top)[0])
 
 
 def refusals(kept: Kept) -> bytes:
@@ -167,14 +157,14 @@ def keeping_fault(serve: Server, seed: int, kernel: bytes, top: Path) -> Optiona
     kept = kept_of(first)
     if not agrees(kept):
         return "registers differ from what v and e say"
-    went_on = asked_of(serve, image, before + looks + after, top)[len(first):]
+    went_on = asked_of(serve, image, before + looks + after, top)[len(first) :]
     back = written(kept.memory, chance) + frame(ord("P"), kept.registers)
     again = asked_of(serve, image, b"".join(request(chance) for _ in range(5)) + back + looks + after, top)
-    if kept_of(again[:len(again) - len(went_on)]) != kept:
+    if kept_of(again[: len(again) - len(went_on)]) != kept:
         return "what was put back differs"
-    if again[len(again) - len(went_on):] != went_on:
+    if again[len(again) - len(went_on) :] != went_on:
         return "it goes on in another way"
-    refused = asked_of(serve, image, back + refusals(kept), top)[-33 - 3 - len(list(altered(kept.registers))):]
+    refused = asked_of(serve, image, back + refusals(kept), top)[-33 - 3 - len(list(altered(kept.registers))) :]
     causes = [reply.body for reply in refused[:-33]]
     if causes != [b"\14"] * (len(causes) - 3) + [b"\3"] * 3 or b"".join(reply.body for reply in refused[-33:]) != kept.registers + kept.memory:
         return "what no machine has is not refused, or changes it"

@@ -1,5 +1,7 @@
 """Cases of targets/ that need no compiler, with results that were worked out by hand."""
+import contextlib
 import pathlib
+import re
 import sys
 import tempfile
 from typing import List
@@ -13,54 +15,14 @@ import retarget  # noqa: E402
 from tally import Tally  # noqa: E402
 
 
+CASES = ROOT / "tests/cases/retarget_cases.txt"
 LAYOUT, WIDE = "e-m:e-p:32:32-i64:64", "e-m:e-i64:64-i128:128"
-# Lines of a module, and what they become for 32 bits.
-NARROWED = [
-    ("  %r1 = alloca ptr, align 8", ["  %r1 = alloca i64, align 8"]),
-    ("  store ptr %a0, ptr %r1, align 8", ["  %narrow.1 = ptrtoint ptr %a0 to i64", "  store i64 %narrow.1, ptr %r1, align 8"]),
-    ('  store ptr @"a, b::<c>", ptr %r1, align 8', ['  %narrow.1 = ptrtoint ptr @"a, b::<c>" to i64', "  store i64 %narrow.1, ptr %r1, align 8"]),
-    ("  %r2 = load ptr, ptr %r1, align 8, !noundef !1",
-     ["  %narrow.1.number = load i64, ptr %r1, align 8", "  %r2 = inttoptr i64 %narrow.1.number to ptr"]),
-    ("  %r4 = ptrtoaddr ptr %r3 to i64", ["  %r4 = ptrtoint ptr %r3 to i64"]),
-    ("  %r5 = load i64, ptr %r4, align 8, !range !2", ["  %r5 = load i64, ptr %r4, align 8, !range !2"]),
-    ('  %r6 = call i8 @"forth83_c::running::load"(ptr %r12, i64 %r18)', ['  %r6 = call i8 @"forth83_c::running::load"(ptr %r12, i64 %r18)']),
-    (r'@words = private constant <{ [8 x i8], ptr, [6 x i8] }> <{ [8 x i8] zeroinitializer, ptr getelementptr (i8, ptr @words, i64 16), [6 x i8] c"ptr @\00" }>, align 8',
-     [r'@words = private constant <{ [8 x i8], ptr, [4 x i8], [6 x i8] }> <{ [8 x i8] zeroinitializer, ptr getelementptr (i8, ptr @words, i64 16), '
-      r'[4 x i8] zeroinitializer, [6 x i8] c"ptr @\00" }>, align 8']),
-    ("  %r7 = load { ptr, i64 }, ptr %r6, align 8",
-     ["  %narrow.1.at = getelementptr i8, ptr %r6, i64 8", "  %narrow.1.a.number = load i64, ptr %r6, align 8",
-      "  %narrow.1.a = inttoptr i64 %narrow.1.a.number to ptr", "  %narrow.1.b = load i64, ptr %narrow.1.at, align 8",
-      "  %narrow.1.one = insertvalue { ptr, i64 } poison, ptr %narrow.1.a, 0",
-      "  %r7 = insertvalue { ptr, i64 } %narrow.1.one, i64 %narrow.1.b, 1"]),
-]
-# Lines that might count on pointers of 8 bytes, or that nobody has looked at.
-REFUSED = [
-    "  %r1 = load { i8, [2 x ptr] }, ptr %r0, align 8",
-    "  store { ptr, i64 } %r0, ptr %r1, align 8",
-    "  %r1 = alloca [2 x ptr], align 8",
-    "  %r1 = alloca { i64, ptr }, align 8",
-    "  %r1 = getelementptr ptr, ptr %r0, i64 1",
-    "  %r1 = getelementptr { i64, ptr }, ptr %r0, i64 1",
-    "  %r1 = load volatile ptr, ptr %r0, align 8",
-    "  %r1 = atomicrmw add ptr %r0, i64 1 seq_cst",
-    "  %r1 = va_arg ptr %r0, i64",
-    "  %r1 = call ptr @llvm.ptrmask.p0.i64(ptr %r0, i64 7)",
-    "  %r1 = load ptr, ptr %r0",
-    "@table = private constant [2 x ptr] [ptr @a, ptr @b]",
-    "@table = private constant <{ i8, ptr }> <{ i8 1, ptr @a }>, align 8",
-    "@table = global i64 0",
-    "module asm \"nop\"",
-]
 
 
-# Layouts in which the library's bytes would mean something else: big-endian; i386, with numbers of 64 bits at multiples of 4; pointers
-# of 16 bits; x32, whose long name hides pointers of 32 bits in the address space 0.
-LAYOUTS_REFUSED = [
-    "E-m:e-i64:64-n32:64",
-    "e-m:e-p:32:32-f64:32:64-f80:32-n8:16:32-S128",
-    "e-m:e-p:16:16-i64:64",
-    "e-m:e-p0:32:32-i64:64",
-]
+def lines(sign: str) -> List[str]:
+    """The lines of the cases that begin with this sign, each with those below it that begin with `>`, without these signs."""
+    parts = re.findall(rf"(?m)^{sign} .*(?:\n> .*)*", CASES.read_text(encoding="ascii"))
+    return [re.sub(r"(?m)^[<>!] ", "", part) for part in parts]
 
 
 def rewritten(line: str, layout: str = LAYOUT, triple: str = "wasm32") -> List[str]:
@@ -77,15 +39,14 @@ def refusal(line: str, layout: str) -> str:
 
 def check_retarget(cases: Tally) -> None:
     """The lines that are rewritten, kept and refused."""
-    for line, wanted in NARROWED:
-        cases.must(rewritten(line) == wanted, f"retarget: {line} became {rewritten(line)}")
-        kept = line.replace("ptrtoaddr", "ptrtoint")
-        cases.must(rewritten(line, WIDE) == [kept], f"retarget: {line} became {rewritten(line, WIDE)} for 64 bits")
-    for line in REFUSED:
-        for layout in (LAYOUT, WIDE):
+    for line, *wanted in map(str.splitlines, lines("<")):
+        if wanted:
+            cases.same(f"retarget: {line}", wanted, rewritten(line))
+            cases.same(f"retarget: {line} for 64 bits", [line.replace("ptrtoaddr", "ptrtoint")], rewritten(line, WIDE))
+        for layout in () if wanted else (LAYOUT, WIDE):
             said = refusal(line, layout)
             cases.must(said.startswith("refused: ") and line.strip() in said, f"retarget doesn't refuse {line}: {said}")
-    for layout in LAYOUTS_REFUSED:
+    for layout in lines("!"):
         said = refusal("  ret i32 0", layout)
         cases.must(said.startswith("refused: ") and layout in said, f"retarget doesn't refuse the layout {layout}: {said}")
     head = "define noundef i32 @forth83_pop(ptr %a0) #0 {"
@@ -98,7 +59,7 @@ def check_retarget(cases: Tally) -> None:
     cases.must(rewritten('target datalayout = "e-i64"') == [f'target datalayout = "{LAYOUT}"'], "the layout")
     cases.must(rewritten('attributes #0 = { nounwind sanitize_address "frame-pointer"="all" }') == ["attributes #0 = { nounwind }"], "attributes")
     cases.must(rewritten("declare void @rattle_dealloc(ptr noundef) #2") == [], "the heap's declarations")
-    program = ['define i32 @main() #0 {', '  ret i32 0', '}', 'define internal noundef i32 @"c::forth83_run"(ptr %a0) #0 {', "}"]
+    program = ["define i32 @main() #0 {", "  ret i32 0", "}", 'define internal noundef i32 @"c::forth83_run"(ptr %a0) #0 {', "}"]
     kept = [retarget.rename(line, "c::") for line in retarget.without_main(program, "c::")]
     cases.must(kept == ["define noundef i32 @forth83_run(ptr %a0) #0 {", "}"], f"the exports: {kept}")
 
@@ -137,19 +98,24 @@ def check_records(cases: Tally) -> None:
     cases.must(calls == [records.Call("forth83_go", ["Global", "&mut Big", "&[u8]", "u16"])], f"calls: {calls}")
 
 
-POINTING = ('@static.2 = private constant <{ [8 x i8], ptr, ptr }> <{ [8 x i8] c"AB\\00\\00\\00\\00\\00\\\\", ptr getelementptr (i8, ptr @static.1, i64 16), '
-            'ptr @static.1 }>, align 8')
+POINTING = (
+    '@static.2 = private constant <{ [8 x i8], ptr, ptr }> <{ [8 x i8] c"AB\\00\\00\\00\\00\\00\\\\", ptr getelementptr (i8, ptr @static.1, i64 16), ' "ptr @static.1 }>, align 8"
+)
 UNITS = "{{{{65,66,0,0,0,0,0,92}},{.at = (const char *)f0.bytes + 16},{.at = (const char *)f0.bytes + 0}}}"
 
 
 def check_in_c(cases: Tally) -> None:
     """The library in C: the bytes of constants, those with addresses, and the names of calls and of other functions."""
-    cases.must(in_c.bytes_of("[6 x i8]", 'A\\22\\\\\\5C') == b'A"\\\\\0\0', f"bytes: {in_c.bytes_of('[6 x i8]', 'A')!r}")
+    cases.must(in_c.bytes_of("[6 x i8]", "A\\22\\\\\\5C") == b'A"\\\\\0\0', f"bytes: {in_c.bytes_of('[6 x i8]', 'A')!r}")
     made = in_c.pointing(in_c.Names(""), POINTING)
     cases.must(made == ("f1", ["f0", "f0"], f"static const struct {{ unit bytes[3]; }} f1 = {UNITS};\n"), f"a constant with addresses: {made}")
     cases.must(in_c.in_order({"b": (["a"], "B"), "a": ([], "A")}) == ["A", "B"], "constants before those that have their addresses")
     names = in_c.Names("")
     cases.must([names.name(it) for it in ("@forth83_run", '@"forth83_c::kept::keep"', "%x")] == ["forth83_run", "f0", "v_x"], "names of functions")
+    for line in ("ret", "%a = freeze", "unreachable now", "fence seq_cst"):
+        with contextlib.suppress(in_c.Unknown):
+            in_c.Body(names).read([line])
+            cases.must(False, f"the library in C does not refuse {line}")
 
 
 def check() -> Tally:

@@ -32,10 +32,10 @@ def check_references(cases: Tally) -> None:
 
 def check_texts(cases: Tally) -> None:
     """Names: control bytes are spelled out."""
-    cases.same("names", ["A", "<b>&\"'", "\\x07\\x1b", "\\xff\u00e9"],
-               [texts.shown(name) for name in (b"A", b"<b>&\"'", b"\x07\x1b", b"\xff\xc3\xa9")])
-    cases.same("names of files", ["SQUARE.html", "_2E_22.html", "_2DX-Y.html", "_2F_2E_2E_2F.html"],
-               [texts.file_name(name, ".html") for name in (b"SQUARE", b'."', b"-X-Y", b"/../")])
+    cases.same("names", ["A", "<b>&\"'", "\\x07\\x1b", "\\xff\u00e9"], [texts.shown(name) for name in (b"A", b"<b>&\"'", b"\x07\x1b", b"\xff\xc3\xa9")])
+    cases.same(
+        "names of files", ["SQUARE.html", "_2E_22.html", "_2DX-Y.html", "_2F_2E_2E_2F.html"], [texts.file_name(name, ".html") for name in (b"SQUARE", b'."', b"-X-Y", b"/../")]
+    )
 
 
 def check_language(cases: Tally) -> None:

@@ -3,6 +3,7 @@ outputs are written by hand."""
 import contextlib
 import io
 import pathlib
+import re
 import tempfile
 import unittest
 from typing import Dict, Iterable, List, Tuple
@@ -13,72 +14,14 @@ import tool_cases
 import verdicts
 from verdicts import Kind
 
-SOURCE = """//! A library.
-
-const MOST: u16 = 9;
-
-/// The same number.
-#[inline(always)]
-pub fn same(n: u16) -> u16
-    ensures value { result ≡ n }
-{
-    let text = "}{";
-    n
-}
-
-fn long(
-    n: u16,
-) -> u16 {
-    if n == MOST {
-        same(n)
-    } else {
-        n
-    }
-}
-
-pub trait Size {
-    fn size(&self) -> u16;
-}
-
-impl<'a> Size for Pair<'a> {
-    fn size(&self) -> u16
-        ensures { result ≡ 2 }
-    {
-        2
-    }
-}
-
-impl Pair {
-    fn first(&self) -> u16 {
-        self.first
-    }
-}
-
-#[cycle(even)]
-fn even(n: u16) -> bool {
-    n == 0
-}
-
-mod inner {
-    fn hidden() -> u16 {
-        7
-    }
-}
-
-macro_rules! made {
-    () => {
-        fn made() -> u16 {
-            8
-        }
-    };
-}
-
-fn empty() {}
-"""
+CASES = pathlib.Path(__file__).resolve().parents[1] / "cases"
+SOURCE = (CASES / "edit_source.txt").read_text(encoding="utf-8")
 PASSED = "logic=proved functions=5 sum=1 native=nat"
 FAILED = "logic=not-proved"
-SAME_REFUSED = ("note: src/lib.rt:7:1: it is not proved that what the function ensures holds when it returns (`returns`)\n"
-                "fn low::same: no proof: expected answers in ./proofs/same/Answers.antt; `search` did not prove `returns`\n")
+SAME_REFUSED = (
+    "note: src/lib.rt:7:1: it is not proved that what the function ensures holds when it returns (`returns`)\n"
+    "fn low::same: no proof: expected answers in ./proofs/same/Answers.antt; `search` did not prove `returns`\n"
+)
 
 
 class Bodies(unittest.TestCase):
@@ -105,9 +48,18 @@ class Bodies(unittest.TestCase):
         self.assertEqual({"low::PairSize::size", "low::Pair::first"}, {it.body.function for it in found})
 
     def test_what_is_no_body(self) -> None:
-        for old, new in (("MOST: u16 = 9", "MOST: u16 = 8"), ("result ≡ n", "result ≡ 0"), ("#[inline(always)]", "#[inline(never)]"),
-                         ("/// The same", "/// Another"), ("    n: u16,", "    n: u32,"), ("fn size(&self) -> u16;", "fn size(&self) -> u32;"),
-                         ("n == 0", "n == 1"), ("        7\n", "        6\n"), ("            8\n", "            9\n"), ("fn empty() {}", "fn empty() { }")):
+        for old, new in (
+            ("MOST: u16 = 9", "MOST: u16 = 8"),
+            ("result ≡ n", "result ≡ 0"),
+            ("#[inline(always)]", "#[inline(never)]"),
+            ("/// The same", "/// Another"),
+            ("    n: u16,", "    n: u32,"),
+            ("fn size(&self) -> u16;", "fn size(&self) -> u32;"),
+            ("n == 0", "n == 1"),
+            ("        7\n", "        6\n"),
+            ("            8\n", "            9\n"),
+            ("fn empty() {}", "fn empty() { }"),
+        ):
             self.assertEqual([], self.changed(old, new), old)
 
     def test_a_body_and_something_else(self) -> None:
@@ -125,8 +77,7 @@ class Bodies(unittest.TestCase):
         self.assertEqual(frozenset(), bodies.places_of(pathlib.Path("low"), {"proofs/Lib.antt": ""}))
 
     def test_modules(self) -> None:
-        self.assertEqual(["low", "low", "low::part", "low::part::inner"], [
-            bodies.module_of("low", f"src/{it}.rt") for it in ("lib", "main", "part", "part/inner")])
+        self.assertEqual(["low", "low", "low::part", "low::part::inner"], [bodies.module_of("low", f"src/{it}.rt") for it in ("lib", "main", "part", "part/inner")])
 
 
 class Verdicts(unittest.TestCase):
@@ -135,89 +86,23 @@ class Verdicts(unittest.TestCase):
     def place(self, function: str) -> bodies.Place:
         return next(bodies.Place("src/lib.rt", it) for it in bodies.bodies_in("low", "src/lib.rt", SOURCE) if it.function == function)
 
-    def kind(self, function: str, text: str, last: str = FAILED, status: int = 1) -> Kind:
-        return verdicts.verdict_on(verdicts.Check(text + last + "\n", status), self.place(function)).kind
+    def verdict(self, function: str, printed: str, status: int) -> verdicts.Verdict:
+        check = verdicts.Check(printed, status)
+        return verdicts.verdict_on_any(check) if function == "any" else verdicts.verdict_on(check, self.place(function))
 
     def test_an_open_goal(self) -> None:
-        found = verdicts.verdict_on(verdicts.Check(SAME_REFUSED + FAILED, 1), self.place("low::same"))
-        self.assertEqual((Kind.REFUSED, "low::same, `returns`"), found)
+        self.assertEqual((Kind.REFUSED, "low::same, `returns`"), self.verdict("low::same", SAME_REFUSED + FAILED, 1))
 
-    def test_one_that_is_not_refused_beside_one_that_is(self) -> None:
-        self.assertEqual(Kind.PASSED, self.kind("low::long", SAME_REFUSED + "fn low::long: proved\n"))
-
-    def test_a_caller_of_what_is_refused(self) -> None:
-        text = SAME_REFUSED + "fn low::long: no proof: it calls `low::same`, which is not proved\n"
-        self.assertEqual([Kind.REFUSED, Kind.PASSED], [self.kind(f"low::{it}", text) for it in ("same", "long")])
-
-    def test_a_caller_with_a_goal_of_its_own(self) -> None:
-        said = "expected answers in ./proofs/long/Answers.antt; `search` did not prove `returns-else`; it calls `low::same`, which is not proved"
-        self.assertEqual(Kind.REFUSED, self.kind("low::long", SAME_REFUSED + f"fn low::long: no proof: {said}\n"))
-
-    def test_an_answer_that_does_not_hold(self) -> None:
-        text = "./proofs/same/Answers.antt:6:5: error: `returns`: `search`: no proof of `n ≡ 0`\nfn low::same: not proved\n"
-        self.assertEqual(Kind.REFUSED, self.kind("low::same", text))
-
-    def test_an_answer_of_another_function(self) -> None:
-        text = "./proofs/long/same/Answers.antt:6:5: error: `returns`: `search`: no proof of `n ≡ 0`\nfn low::same: not proved\n"
-        self.assertEqual(Kind.PASSED, self.kind("low::same", text))
-
-    def test_a_note_within_the_function_alone(self) -> None:
-        note = "note: src/{}:{}:5: it is not proved that the sum fits (`overflow_add`)\nfn low::same: not proved\n"
-        found = [self.kind("low::same", note.format(*at)) for at in (("lib.rt", 5), ("lib.rt", 12), ("lib.rt", 4), ("lib.rt", 13), ("part.rt", 7))]
-        self.assertEqual([Kind.REFUSED, Kind.REFUSED, Kind.PASSED, Kind.PASSED, Kind.PASSED], found)
-
-    def test_a_missing_name(self) -> None:
-        for why in ("`returns`: `c.low` has no field `result`", "`result` is not in scope", "the record `c` is another one"):
-            text = f"./proofs/same/Answers.antt:6:5: error: {why}\nfn low::same: not proved\n"
-            self.assertEqual(Kind.MISSING, self.kind("low::same", text), why)
-
-    def test_a_text_that_cannot_be_read(self) -> None:
-        for why in ("expected an expression", "`returns`: `z` is not in scope"):
-            self.assertEqual(Kind.MISSING, self.kind("low::same", f"src/lib.rt:9:5: error: {why}\n" + SAME_REFUSED))
-
-    def test_a_check_of_some_functions_alone(self) -> None:
-        for last, status, kind in (("only=3 proved=2", 1, Kind.REFUSED), ("only=3 proved=2", 0, Kind.UNREADABLE), ("only=3 proved=3", 1, Kind.UNREADABLE),
-                                   ("only=3 proved=2", 3, Kind.UNREADABLE), ("only=3", 1, Kind.UNREADABLE)):
-            self.assertEqual(kind, self.kind("low::same", SAME_REFUSED, last, status), (last, status))
-
-    def test_libraries_of_another_run(self) -> None:
-        text = "module `Rattle-low-specs` is not the one. Run the lower steps again\n" + SAME_REFUSED
-        self.assertEqual(Kind.UNREADABLE, self.kind("low::same", text))
-
-    def test_an_output_without_its_end(self) -> None:
-        for last, status in (("", 1), (FAILED, 0), (FAILED, 2), (FAILED, -9), (PASSED, 1), (FAILED + "\nmore", 1)):
-            self.assertEqual(Kind.UNREADABLE, self.kind("low::same", SAME_REFUSED, last, status), (last, status))
-
-    def test_a_function_without_a_line(self) -> None:
-        self.assertEqual(Kind.UNREADABLE, self.kind("low::long", SAME_REFUSED))
-
-    def test_a_method_whose_type_is_of_another_module(self) -> None:
-        for said, kind in (("fn low::pairs::Pair::first: proved\n", Kind.PASSED), ("fn low::pairs::Other::first: proved\n", Kind.UNREADABLE),
-                           ("fn low::pairs::Pair::first: proved\nfn low::more::Pair::first: proved\n", Kind.UNREADABLE),
-                           ("fn low::pairs::Pair::first: no proof: `search` did not prove `returns`\n", Kind.REFUSED)):
-            self.assertEqual(kind, self.kind("low::Pair::first", SAME_REFUSED + said), said)
-        self.assertEqual(Kind.UNREADABLE, self.kind("low::same", "fn low::part::same: proved\n"))
-
-    def test_an_edit_that_changes_more_than_bodies(self) -> None:
-        missing = "./proofs/same/Answers.antt:6:5: error: `result` is not in scope\nfn low::same: not proved\n"
-        found = [verdicts.verdict_on_any(verdicts.Check(text + FAILED, 1)).kind for text in (SAME_REFUSED, missing, "fn low::same: proved\n", "")]
-        self.assertEqual([Kind.REFUSED, Kind.MISSING, Kind.PASSED, Kind.PASSED], found)
-        self.assertEqual(Kind.UNREADABLE, verdicts.verdict_on_any(verdicts.Check(SAME_REFUSED, 1)).kind)
+    def test_outputs(self) -> None:
+        cases = re.findall(r"(?m)^== (.*) \| (.*) \| (.*) \| (.*)\n((?:(?!==|\n).*\n)*)", (CASES / "verdict_cases.txt").read_text(encoding="utf-8"))
+        self.assertEqual(39, len(cases))
+        for title, function, status, wanted, text in cases:
+            printed = text.replace("%SAME\n", SAME_REFUSED).replace("%FAILED", FAILED).replace("%PASSED", PASSED)
+            with self.subTest(title, printed=printed):
+                self.assertEqual(Kind[wanted], self.verdict(function, printed, int(status)).kind)
 
 
-SMALL = """fn same(n: u16) -> u16
-    ensures { result ≡ n }
-{
-    n + 0
-}
-
-fn other(n: u16) -> u16
-    ensures { result ≡ n }
-{
-    let _ = n;
-    n - 0
-}
-"""
+SMALL = (tool_cases.TEXTS / "small.txt").read_text(encoding="utf-8")
 
 
 class Prover:
@@ -271,7 +156,7 @@ class Together(unittest.TestCase):
         """The names of the edits that each check tries."""
         self.write(changes)
         with mock.patch.object(self.tool, "ROOT", self.own):
-            return [[it.name[:-len(".edit")] for it in joined] for rounds in self.tool.rounds_in(self.copy) for joined in rounds]
+            return [[it.name[: -len(".edit")] for it in joined] for rounds in self.tool.rounds_in(self.copy) for joined in rounds]
 
     def run_all(self, changes: Dict[str, Tuple[str, str]]) -> Tuple[int, List[str]]:
         """Tries these edits: the status, and what is printed."""
@@ -334,8 +219,7 @@ class Together(unittest.TestCase):
         self.assertFalse(self.prover.kept[0].exists())
 
     def test_methods_by_their_type(self) -> None:
-        self.assertEqual(["Pair::first", "low::pairs::same", "low::same"],
-                         [self.tool.short_name(it) for it in ("low::pairs::Pair::first", "low::pairs::same", "low::same")])
+        self.assertEqual(["Pair::first", "low::pairs::same", "low::same"], [self.tool.short_name(it) for it in ("low::pairs::Pair::first", "low::pairs::same", "low::same")])
 
     @staticmethod
     def cut(found: Tuple[int, List[str]]) -> Tuple[int, str]:

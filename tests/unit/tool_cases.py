@@ -9,9 +9,8 @@ import re
 import subprocess
 import sys
 import tempfile
-import types
 import unittest
-from typing import List, Tuple
+from typing import Any, List, Tuple
 from unittest import mock
 
 import arithmetic_cases
@@ -19,13 +18,17 @@ import command_lines
 import antt
 import declared
 import definitions
+import made_files
 import runnable
 import sessions
+import shell_cases
 import side_by_side
 import tally
 import unclaused
+import wanted_lines
 
 ROOT = pathlib.Path(__file__).resolve().parents[2]
+TEXTS = ROOT / "tests/unit/texts"
 sys.path.append(str(ROOT / "commands"))
 
 import quiet_end  # noqa: E402
@@ -33,12 +36,10 @@ from served import image, paging  # type: ignore[import]  # noqa: E402
 import whole  # noqa: E402
 
 
-def command(path: str) -> types.ModuleType:
-    """A command, as a module: its file has no suffix."""
+def command(path: str) -> Any:
+    """A command of this repository, as a module: its file has no suffix."""
     loader = importlib.machinery.SourceFileLoader(re.sub(r"\W", "_", path), str(ROOT / path))
-    spec = importlib.util.spec_from_loader(loader.name, loader)
-    assert spec is not None
-    module = importlib.util.module_from_spec(spec)
+    module = importlib.util.module_from_spec(importlib.util.spec_from_loader(loader.name, loader))
     loader.exec_module(module)
     return module
 
@@ -46,37 +47,7 @@ def command(path: str) -> types.ModuleType:
 class RunDefinitions(unittest.TestCase):
     """Definitions as Python functions."""
 
-    TEXT = """use Rattle.std.specs.Prelude.{ℕ, List, [], ◌∷◌, zero, suc, length, Bool}
-use Rattle.std.specs.Int.Digits.{digits_of}
-use Rattle.std.specs.Prelude.{unheard_of}
-
-abbrev pub total : List ℕ → ℕ
-total [] = 0
-total (x ∷ xs) = x + total xs
-
-unfoldable pub down : ℕ → List ℕ
-down zero = []
-down (suc n) = n ∷ down n
-
-abbrev pub guarded : Bool → ℕ → ℕ
-guarded b x = if b then x else 7
-
-abbrev pub digits_if : ℕ → ℕ
-digits_if base = guarded (base == 10) (length (digits_of base 123))
-
-pub record IsRising (xs : List ℕ) : Type 0 where
-  pub front : List ℕ
-  pub a : ℕ
-  pub b : ℕ
-  pub is : xs ≡ front ++ a ∷ b ∷ []
-  pub rises : a < b
-
-abbrev pub AllSmall : ℕ → Type 0
-AllSmall n = (k : ℕ) → k < n → k * k < 50
-
-abbrev pub strange : ℕ → ℕ
-strange n = unheard_of n
-"""
+    TEXT = (TEXTS / "definitions.txt").read_text(encoding="utf-8")
 
     def setUp(self) -> None:
         library = definitions.Library.__new__(definitions.Library)
@@ -105,8 +76,7 @@ strange n = unheard_of n
 class QuietEnds(unittest.TestCase):
     """Commands that print a list, whose reader ends first: nothing is printed on standard error."""
 
-    COMMANDS = (["tests/sources/check-english", "--words"], ["tools/bare-functions"], ["commands/command-line", "--help"],
-                ["commands/bring", "--help"])
+    COMMANDS = (["tests/sources/check-english", "--words"], ["tools/bare-functions"], ["commands/command-line", "--help"], ["commands/bring", "--help"])
 
     def test_a_reader_that_ends_first_costs_no_message(self) -> None:
         for words in self.COMMANDS:
@@ -136,6 +106,18 @@ class WholeFiles(unittest.TestCase):
             with mock.patch("os.replace", side_effect=OSError), self.assertRaises(OSError):
                 whole.replace(old, b"4")
             self.assertEqual((b"2", ["link", "new", "old"]), (old.read_bytes(), sorted(os.listdir(name))))
+
+
+class MadeFiles(unittest.TestCase):
+    def test_a_file_that_differs_is_named_or_written_and_no_other(self) -> None:
+        with tempfile.TemporaryDirectory() as name, mock.patch.object(made_files, "ROOT", pathlib.Path(name)):
+            same, other, new = (pathlib.Path(name, it) for it in ("same", "other", "new"))
+            for path in (same, other):
+                path.write_text("1")
+            files, as_it_was = {same: "1", other: "2", new: "3"}, same.stat().st_mtime_ns
+            wanted = [f"{it} is not up to date: run it" for it in ("other", "new")]
+            self.assertEqual((wanted, "1", False), (made_files.bring(files, False, "it"), other.read_text(), new.exists()))
+            self.assertEqual(([], "2", "3", as_it_was), (made_files.bring(files, True, "it"), other.read_text(), new.read_text(), same.stat().st_mtime_ns))
 
 
 class SideBySide(unittest.TestCase):
@@ -171,8 +153,12 @@ class TestSuite(unittest.TestCase):
         self.assertEqual([], sorted(str(it.relative_to(ROOT)) for it in ROOT.glob("tests/*/check-*") if str(it.relative_to(ROOT)) not in named))
 
     def test_refusals_name_what_is_wrong(self) -> None:
-        for words, said in ((["--sources", "none"], "there is no check none here"), (["--program", "/none"], "there is no program /none"),
-                            (["served"], "name checks after --sources"), (["--program", str(ROOT / "test"), "layout"], "there is no check layout here")):
+        for words, said in (
+            (["--sources", "none"], "there is no check none here"),
+            (["--program", "/none"], "there is no program /none"),
+            (["served"], "name checks after --sources"),
+            (["--program", str(ROOT / "test"), "layout"], "there is no check layout here"),
+        ):
             with self.subTest(words=words):
                 done = subprocess.run([ROOT / "test", *words], stdout=subprocess.PIPE, stderr=subprocess.STDOUT, text=True, check=False)
                 self.assertEqual(2, done.returncode)
@@ -186,39 +172,26 @@ class TestSuite(unittest.TestCase):
 class Declared(unittest.TestCase):
     """The enums and structs of a source, and those that definitions name."""
 
-    SOURCE = """//! Answers.
-
-/// The answer to a request. It may be none.
-#[derive(Clone)]
-pub enum Answer<'a> {
-    /// A byte.
-    Key(u8),
-    Line { bytes: &'a [u8], returned: bool },
-    End = 3,
-}
-
-/// Where a block is.
-pub struct Place {
-    /// From 0 on.
-    pub slot: usize,
-    hidden: u8,
-    pub block: Option<u16>,
-}
-
-enum Inner {
-    One,
-}
-"""
+    SOURCE = (TEXTS / "declared.txt").read_text(encoding="utf-8")
 
     def test_variants_and_public_fields(self) -> None:
         self.assertEqual(
-            [declared.Item("low", "Answer", "The answer to a request.", ("Key(u8)", "Line { bytes: &'a [u8], returned: bool }", "End = 3")),
-             declared.Item("low", "Place", "Where a block is.", ("slot: usize", "block: Option<u16>"))],
-            declared.items_in("low", self.SOURCE))
+            [
+                declared.Item("low", "Answer", "The answer to a request.", ("Key(u8)", "Line { bytes: &'a [u8], returned: bool }", "End = 3")),
+                declared.Item("low", "Place", "Where a block is.", ("slot: usize", "block: Option<u16>")),
+            ],
+            declared.items_in("low", self.SOURCE),
+        )
 
     def test_names_of_definitions(self) -> None:
-        names = ["low.specs.declared.act.Answer.TheVariants.Key", "low.specs.declared.act.Answer.Answer", "low.specs.declared.Memory.Memory",
-                 "mid.specs.declared.system.TheConstants.DP", "std.specs.declared.alloc.Global.Global", "low.specs.Bytes.cell"]
+        names = [
+            "low.specs.declared.act.Answer.TheVariants.Key",
+            "low.specs.declared.act.Answer.Answer",
+            "low.specs.declared.Memory.Memory",
+            "mid.specs.declared.system.TheConstants.DP",
+            "std.specs.declared.alloc.Global.Global",
+            "low.specs.Bytes.cell",
+        ]
         self.assertEqual([("low", "Answer"), ("low", "Memory"), ("mid", "DP")], declared.cited(names))
 
 
@@ -228,8 +201,14 @@ class Tallies(unittest.TestCase):
     def test_counts_and_reports(self) -> None:
         tried = tally.Tally("check-x", most=4)
         with contextlib.redirect_stderr(io.StringIO()) as said:
-            results = [tried.must(True, "one"), tried.same("two", 2, 2), tried.holds("three", "b", "abc"),
-                       tried.must(False, "four"), tried.same("five", "abcdef", 5), tried.holds("six", "x", "abc")]
+            results = [
+                tried.must(True, "one"),
+                tried.same("two", 2, 2),
+                tried.holds("three", "b", "abc"),
+                tried.must(False, "four"),
+                tried.same("five", "abcdef", 5),
+                tried.holds("six", "x", "abc"),
+            ]
         self.assertEqual(([True] * 3 + [False] * 3, 3, 3, 1), (results, tried.right, tried.wrong, tried.status))
         self.assertEqual("check-x: four\ncheck-x: five: wanted 'abc.., got 5\ncheck-x: six: wanted 'x' in 'abc..\n", said.getvalue())
 
@@ -239,12 +218,14 @@ class Tallies(unittest.TestCase):
 
 class Refusals(unittest.TestCase):
     def test_counts_edits_and_those_that_lack_a_name(self) -> None:
-        count, found = command("tests/edits/refusals").missing_names([
-            "rt: must-fail a.edit: refused, as it must be: the goal of f is open",
-            "rt: must-fail b.edit: refused, as it must be: `z` is not in scope",
-            "rt: must-fail c.edit: refused, as it must be (only because a name is missing): x",
-            "rt: cells proved",
-        ])
+        count, found = command("tests/edits/refusals").missing_names(
+            [
+                "rt: must-fail a.edit: refused, as it must be: the goal of f is open",
+                "rt: must-fail b.edit: refused, as it must be: `z` is not in scope",
+                "rt: must-fail c.edit: refused, as it must be (only because a name is missing): x",
+                "rt: cells proved",
+            ]
+        )
         self.assertEqual((count, [line.split(":")[0] for line in found]), (3, ["b.edit", "c.edit"]))
 
 
@@ -252,9 +233,10 @@ class GateTimes(unittest.TestCase):
     def test_the_table_has_the_greatest_first_and_the_sums(self) -> None:
         used = {("1", ("cells", "proof")): 60.0, ("2", ("cells", "edits")): 30.0, ("3", ("see", "tests")): 120.0}
         lines = command("tools/gate-times").table_of(used, 300.0, 120.0)
-        self.assertEqual([line.split() for line in lines[2:]], [
-            ["see", "0.0", "2.0", "0.0", "0.0", "0"], ["cells", "1.0", "0.0", "0.0", "0.5", "1"],
-            ["all", "1.0", "2.0", "0.0", "0.5", "1"], ["besides:", "1.5"]])
+        self.assertEqual(
+            [line.split() for line in lines[2:]],
+            [["see", "0.0", "2.0", "0.0", "0.0", "0"], ["cells", "1.0", "0.0", "0.0", "0.5", "1"], ["all", "1.0", "2.0", "0.0", "0.5", "1"], ["besides:", "1.5"]],
+        )
         self.assertTrue(lines[0].startswith("gate: 2 minutes, 5 of processor time"))
 
     def test_a_process_that_has_ended_has_no_times(self) -> None:
@@ -295,8 +277,19 @@ class Unnamed(unittest.TestCase):
         return command("tests/sources/check-definitions").UNNAMED.findall(text)
 
     def test_numbers_of_what_has_a_name(self) -> None:
-        for number in ("cell m 16", "put_cell (written m ws) 20", "PutCell 20", "control_code s.memory 8", "runtime m 18", "rt 5", "row 149",
-                       "creates t w name false 2", "fault s 7", "needs t 8", "cell m word == 1"):
+        for number in (
+            "cell m 16",
+            "put_cell (written m ws) 20",
+            "PutCell 20",
+            "control_code s.memory 8",
+            "runtime m 18",
+            "rt 5",
+            "row 149",
+            "creates t w name false 2",
+            "fault s 7",
+            "needs t 8",
+            "cell m word == 1",
+        ):
             self.assertEqual(self.found(f"x = {number} y"), [number])
 
     def test_other_numbers(self) -> None:
@@ -305,22 +298,7 @@ class Unnamed(unittest.TestCase):
 
 
 class Audit(unittest.TestCase):
-    SOURCE = """pub fn free(x: u16) -> Option<u16>
-    ensures done { x ≡ result }
-    ensures gone { IsNone result }
-{
-    None
-}
-
-fn inner() {}
-
-impl Pair {
-    pub fn first(&self) -> u16
-    {
-        0
-    }
-}
-"""
+    SOURCE = (TEXTS / "audited.txt").read_text(encoding="utf-8")
 
     def test_public_functions_and_methods_are_found_with_their_clauses(self) -> None:
         module = command("tools/audit")
@@ -352,8 +330,10 @@ class BareFunctions(unittest.TestCase):
 
     def test_those_that_do_more_than_their_clause_says(self) -> None:
         kept = "    ensures { IfErr result (λ status. 0 < status) }\n{\n"
-        text = ("use std::fs;\n\nfn reads() -> u8\n    ensures { result ≡ 1 }\n{\n    fs::read(1)\n}\n\nfn above() -> u8\n    ensures { result ≡ 1 }\n{\n    reads()\n}\n\n"
-                f"fn silent() -> Result<u8, u8>\n{kept}    Ok(1)\n}}\n\nfn good() -> u8\n    ensures {{ result ≡ 1 }}\n{{\n    1\n}}\n")
+        text = (
+            "use std::fs;\n\nfn reads() -> u8\n    ensures { result ≡ 1 }\n{\n    fs::read(1)\n}\n\nfn above() -> u8\n    ensures { result ≡ 1 }\n{\n    reads()\n}\n\n"
+            f"fn silent() -> Result<u8, u8>\n{kept}    Ok(1)\n}}\n\nfn good() -> u8\n    ensures {{ result ≡ 1 }}\n{{\n    1\n}}\n"
+        )
         functions = list(unclaused.functions_in("low", "a.rt", text))
         self.assertEqual([it.name for it in functions if it.is_silent], ["silent"])
         self.assertEqual([it.name for it in unclaused.calling(functions)], ["reads", "above"])
@@ -362,8 +342,9 @@ class BareFunctions(unittest.TestCase):
 class Sessions(unittest.TestCase):
     def test_steps_have_what_is_typed_and_what_is_shown(self) -> None:
         steps = sessions.steps_of("A page.\n```\n$ ./forth\n> 1 .\n1  ok\n> KEY\n>>> x\n>> a line\nshown\n```\nMore.\n")
-        self.assertEqual([(it.typed, it.at_shell, it.answers, it.shown) for it in steps], [
-            ("./forth", True, "", []), ("1 .", False, "", ["1  ok"]), ("KEY", False, "xa line\n", ["shown"])])
+        self.assertEqual(
+            [(it.typed, it.at_shell, it.answers, it.shown) for it in steps], [("./forth", True, "", []), ("1 .", False, "", ["1  ok"]), ("KEY", False, "xa line\n", ["shown"])]
+        )
 
     def test_the_output_is_divided_at_what_was_typed(self) -> None:
         steps = sessions.steps_of("```\n> 1 .\n> 2 .\n> BYE\n$ ls\n```\n")
@@ -393,24 +374,23 @@ class Commands(unittest.TestCase):
     """Cases that are commands of a shell, as cram has them."""
 
     def setUp(self) -> None:
-        self.checker = command("tests/trials/check-commands")
-        self.steps = self.checker.steps_of(b"A title.\n\n  $ echo a\n  > false\n  a\n  [1]\n\n  $ printf b\n  c\n")
+        self.steps = shell_cases.steps_of(b"A title.\n\n  $ echo a\n  > false\n  a\n  [1]\n\n  $ printf b\n  c\n")
 
     def test_steps(self) -> None:
         self.assertEqual(self.steps, [(3, [b"echo a", b"false"], [b"a", b"[1]"]), (8, [b"printf b"], [b"c"])])
 
     def test_lines(self) -> None:
         for wanted, got in [(b"a", b"a"), (rb"a\x20 (esc)", b"a "), (b"a+ (re)", b"aa"), (b"*a? (glob)", b"xab"), (rb"\* (glob)", b"*"), (b" (esc)", b"")]:
-            self.assertTrue(self.checker.matches(wanted, got), wanted)
+            self.assertTrue(wanted_lines.matches(wanted, got), wanted)
         for wanted, got in [(b"a", b"a "), (rb"a\t (esc)", b"a "), (b"a (re)", b"aa"), (b"a? (glob)", b"a"), (rb"\* (glob)", b"x"), (b"a", b"a (no-eol)")]:
-            self.assertFalse(self.checker.matches(wanted, got), wanted)
+            self.assertFalse(wanted_lines.matches(wanted, got), wanted)
 
     def test_printed(self) -> None:
-        mark = self.checker.SALT
+        mark = shell_cases.SALT
         printed = [[b"a", b"[1]"], [b"b (no-eol)"]]
-        self.assertEqual(self.checker.printed_by(self.steps, mark + b" 0\na\n" + mark + b" 1\nb" + mark + b" 0\n"), printed)
-        self.assertEqual(self.checker.printed_by(self.steps, mark + b" 0\na\n"), [[b"a", b"[?]"], [b"was not run"]])
-        self.assertEqual([self.checker.difference(step.wanted, got)[-2:] for step, got in zip(self.steps, printed)], [[], ["-c", "+b (no-eol)"]])
+        self.assertEqual(shell_cases.printed_by(self.steps, mark + b" 0\na\n" + mark + b" 1\nb" + mark + b" 0\n"), printed)
+        self.assertEqual(shell_cases.printed_by(self.steps, mark + b" 0\na\n"), [[b"a", b"[?]"], [b"was not run"]])
+        self.assertEqual([wanted_lines.difference(step.wanted, got)[-2:] for step, got in zip(self.steps, printed)], [[], ["-c", "+b (no-eol)"]])
 
 
 class Paging(unittest.TestCase):
@@ -473,8 +453,10 @@ class CommandLines(unittest.TestCase):
 class CommandLine(unittest.TestCase):
     """What ./forth83 answers without a program; tests/sources/check-help PROGRAM compares the same with the program."""
 
-    HELP = ("== forth83\nUsage: forth83 <COMMAND>\n== forth83 cut\nCut it\n\nUsage: forth83 cut [OPTIONS] <FROM> [TO]\n\nArguments:\n"
-            "  <FROM>  The first, 1 to 9\n  [TO]    Where to\n\nOptions:\n      --most <N>  At most\n      --dry       No\n  -h, --help      Help\n")
+    HELP = (
+        "== forth83\nUsage: forth83 <COMMAND>\n== forth83 cut\nCut it\n\nUsage: forth83 cut [OPTIONS] <FROM> [TO]\n\nArguments:\n"
+        "  <FROM>  The first, 1 to 9\n  [TO]    Where to\n\nOptions:\n      --most <N>  At most\n      --dry       No\n  -h, --help      Help\n"
+    )
 
     def answer(self, *words: str) -> object:
         module = command("commands/command-line")

@@ -133,6 +133,20 @@ A device that does not exist:
   *--on wants a device* (glob)
   [2]
 
+--on and what is no line, or has no such speed:
+
+  $ : > file
+  $ forth --on file < /dev/null
+  forth: file is no device
+  [1]
+  $ forth --on /dev/null < /dev/null
+  forth: /dev/null is no terminal, or is in use by another program
+  [1]
+  $ forth --on /dev/tty --speed fast < /dev/null
+  forth: --speed wants a number, as 9600
+  [2]
+  $ rm file
+
 A command's help, before it:
 
   $ forth --help where < /dev/null

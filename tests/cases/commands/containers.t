@@ -16,6 +16,15 @@ The container `bad` is refused by both, with these words. No blocks are made, an
   >   return $status
   > }
 
+Each byte, made text by --clean: without its high bit, and a blank where that is no text.
+
+  $ for byte in {0..255}; do printf "\\$(printf %o "$byte")"; done > bytes && cat bytes bytes bytes bytes > all
+  $ forth83 import --clean all all.blk
+  $ low=$(for byte in {32..126}; do printf "\\$(printf %o "$byte")"; done)
+  $ half() { printf '%32s' ''; printf '%s ' "$low"; }
+  $ { half; half; half; half; half; half; half; half; } | cmp - all.blk
+  $ forth83 text all.blk 0 0 > shown
+
 A container that ends too early:
 
   $ bytes '#' 13313 > bad
@@ -162,3 +171,10 @@ Files that exist, or do not:
   [2]
   $ ls | grep forth83-new
   [1]
+
+Of several orders of a disk's sectors that look equally like sources the plainest is shown first: a file of blocks is one.
+
+  $ forth83 new plain.blk 64
+  $ forth83 screens "$TREE/examples/gold.txt" plain.blk
+  $ forth83 guess plain.blk | head -n 1
+  --format blocks    (*) (glob)

@@ -95,6 +95,12 @@ HERE within the Forth:
   forth: a fault stopped the script
   [3]
 
+EXIT in a loop is reported once, also if the definition goes on:
+
+  $ printf ': X 5 0 DO EXIT\n LOOP\n ; 7 .\n' | forth --quiet
+  EXIT in a DO loop leaves the cells of the loop: write UNLOOP before it (INCLUDE later.fs has it), in line 1
+  7  (no-eol)
+
 No such screen:
 
   $ printf '9999 LIST\n' | forth --quiet

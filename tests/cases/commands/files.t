@@ -183,32 +183,6 @@ not touched by the next one.
   $ tail -n 1 change
   changed
 
-No file beside a block file is taken for a new one, whatever it is: not a person's own, a folder, a link, or a pipe. If all ten names are
-taken the block file stays as it was.
-
-  $ mkdir taken taken/old.blk.forth83-new1
-  $ forth83 new taken/old.blk 8
-  $ echo mine > taken/old.blk.forth83-new
-  $ ln -s elsewhere taken/old.blk.forth83-new2
-  $ mkfifo taken/old.blk.forth83-new3
-  $ forth83 screens change taken/old.blk
-  $ tail -c 1024 taken/old.blk | tr -d ' '
-  changed (no-eol)
-  $ cat taken/old.blk.forth83-new
-  mine
-  $ readlink taken/old.blk.forth83-new2
-  elsewhere
-  $ for name in taken/old.blk.forth83-new{4..9}; do echo "$name" > "$name"; done
-  $ cp taken/old.blk before
-  $ printf '%% screen 7\nagain\n' > again.txt
-  $ forth83 screens again.txt taken/old.blk
-  error: taken/old.blk has ten files beside it named .forth83-new to .forth83-new9; remove those that are not needed
-  [2]
-  $ cmp taken/old.blk before
-  $ [ "$(cd taken && echo *)" = "old.blk$(printf ' old.blk.forth83-new%s' '' {1..9})" ]
-  $ cat taken/old.blk.forth83-new9
-  taken/old.blk.forth83-new9
-
 A file that is replaced keeps its permissions, and if root replaces it also its owner and its group.
 
   $ forth83 new owned.blk 8

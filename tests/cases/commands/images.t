@@ -347,3 +347,32 @@ What was in the way is as it was, and no image was made:
 
   $ sha256sum --quiet --check before
   $ [ ! -e no.img ]
+
+Each beginning of an image's file is refused, in the form of today and in that of before.
+
+  $ source_screen good 1 '5 PRIM EXIT 23 PRIM BYE : GO BYE ; BOOT GO' && forth83 build good 1 1 today
+  size 290 entry 284
+  $ { head -c 8 today; printf '\001\000'; tail -c +13 today; } > before && stat -c %s today before
+  306
+  304
+  $ beginnings() { for ((n = 0; n < $(stat -c %s "$1"); n++)); do head -c "$n" "$1" > beginning; forth83 run beginning < /dev/null; echo "[$?]"; done | sort | uniq -c; }
+  $ beginnings today; forth83 run today < /dev/null
+      306 [1]
+      306 image: Truncated
+  $ beginnings before; forth83 run before < /dev/null
+      304 [1]
+      304 image: Truncated
+
+A dictionary whose chain leads to itself: EXIT's header at 258 is its own successor.
+
+  $ { printf '%1024s' ''; printf '%-64s%-64s%-896s' '5 PRIM EXIT 6 PRIM (LIT) 7 PRIM BRANCH 8 PRIM ?BRANCH' '23 PRIM BYE 32 PRIM DUP' ': Z DUP IF 1 ELSE -1 THEN ; : GO 0 Z BYE ; BOOT GO'; } > choice
+  $ forth83 build choice 1 1 cycle && printf '\002\001' | dd of=cycle bs=1 seek=$((16 + 258)) conv=notrunc status=none
+  size 373 entry 361
+  $ forth83 see cycle Z
+  Z: ChainTooLong
+  [1]
+  $ forth83 debug cycle Z traced
+  Z: ChainTooLong
+  [1]
+  $ forth83 view cycle Z
+  1

@@ -122,7 +122,8 @@ A second start:
   5 . 5  ok
   $ said 'is not proved yet'
 
-  $ for _ in {1..3000}; do ! ../tree/build/is-proved || break; sleep 0.1; done
+  $ ends() { flock -w 600 ../tree/build/out/proof.lock true; }
+  $ ends
 
 The first start after the proof:
 
@@ -145,7 +146,7 @@ A start whose proof fails:
   5 . 5  ok
   $ said 'is not proved yet'
 
-  $ for _ in {1..3000}; do [ ! -e ../tree/build/out/proof.failed ] || break; sleep 0.1; done
+  $ ends
 
 The first start after it:
 
