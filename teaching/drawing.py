@@ -77,8 +77,7 @@ class Grid:
             begins += count
 
     def boxes(self, begins: int, end: int, kind: str) -> str:
-        return "".join(f'<rect class="{kind}" x="{x}" y="{y + 2}" width="{count * BYTE}" height="{ROW - 6}"/>'
-                       for x, y, count in self.pieces(begins, end))
+        return "".join(f'<rect class="{kind}" x="{x}" y="{y + 2}" width="{count * BYTE}" height="{ROW - 6}"/>' for x, y, count in self.pieces(begins, end))
 
     def letters(self, header: images.Header) -> str:
         """The name, each letter on its byte."""
@@ -116,9 +115,11 @@ def lines_of(one: regions.Map, header: images.Header) -> List[str]:
     size = max(0, header.end - header.body)
     signs = [sign for sign, is_so in (("immediate", header.is_immediate), ("hidden", header.is_hidden)) if is_so]
     view = f", screen {header.view}" if header.view else ""
-    return [", ".join([texts.shown(header.name), regions.what(header), *signs]) + view,
-            f"header {header.begins} to {header.body - 1}, and {size} bytes after it",
-            f"chain {header.chain()}, the word before: {before}"]
+    return [
+        ", ".join([texts.shown(header.name), regions.what(header), *signs]) + view,
+        f"header {header.begins} to {header.body - 1}, and {size} bytes after it",
+        f"chain {header.chain()}, the word before: {before}",
+    ]
 
 
 def word(grid: Grid, header: images.Header) -> str:
@@ -127,8 +128,10 @@ def word(grid: Grid, header: images.Header) -> str:
     drawn = "".join(grid.boxes(region.begins, region.end, region.kind) for region in regions.parts_of(header))
     link = grid.boxes(header.link_field, header.link_field + 2, f"cell c{header.chain()}")
     text = escape("|".join(line.replace("|", "¦") for line in lines))
-    return (f'<g class="word" tabindex="0" data-at="{header.link_field}" data-link="{header.link}" data-about="{text}">'
-            f'<title>{escape(chr(10).join(lines))}</title>{drawn}{link}{grid.letters(header)}</g>')
+    return (
+        f'<g class="word" tabindex="0" data-at="{header.link_field}" data-link="{header.link}" data-about="{text}">'
+        f"<title>{escape(chr(10).join(lines))}</title>{drawn}{link}{grid.letters(header)}</g>"
+    )
 
 
 def newest_chain(one: regions.Map) -> List[int]:
@@ -151,8 +154,7 @@ def draw_grid(canvas: Canvas, grid: Grid, runs: List[Tuple[int, int]]) -> None:
             canvas.add(grid.boxes(region.begins, region.end, region.kind))
     canvas.add("".join(word(grid, header) for header in grid.one.words))
     marked = set(newest_chain(grid.one))
-    arcs = "".join(grid.arc(header).replace('class="link', 'class="link on' if header.link_field in marked else 'class="link')
-                   for header in grid.one.words)
+    arcs = "".join(grid.arc(header).replace('class="link', 'class="link on' if header.link_field in marked else 'class="link') for header in grid.one.words)
     canvas.add(f'<g class="links">{arcs}</g>')
     canvas.add("".join(grid.boxes(begins, end, "changed") for begins, end in runs))
     if images.DICTIONARY <= grid.one.here <= grid.one.top:
@@ -167,8 +169,7 @@ def draw_strip(canvas: Canvas, one: regions.Map) -> None:
     scale, y = (canvas.width - 24) / images.MEMORY, canvas.y + 6
     for begins, end, kind, text in one.outline():
         x, width = 8 + begins * scale, max(1, (end - begins) * scale)
-        canvas.add(f'<rect class="{kind}" x="{x:.2f}" y="{y}" width="{width:.2f}" height="26">'
-                   f'<title>{escape(text)}: {begins} to {end - 1}</title></rect>')
+        canvas.add(f'<rect class="{kind}" x="{x:.2f}" y="{y}" width="{width:.2f}" height="26">' f"<title>{escape(text)}: {begins} to {end - 1}</title></rect>")
     canvas.room(34)
     for begins, end, kind, text in one.outline():
         if kind == "buffer" and begins > one.limit:
@@ -191,12 +192,18 @@ def draw_cells(canvas: Canvas, one: regions.Map) -> None:
 
 
 COLOURS = (
-    ("header", "header with its name"), ("cell c0", "its link cell, by chain: 0"), ("cell c1", "1"), ("cell c2", "2"),
-    ("cell c3", "3"), ("code", "code field"), ("thread", "thread"), ("data", "data"), ("record", "vocabulary"),
+    ("header", "header with its name"),
+    ("cell c0", "its link cell, by chain: 0"),
+    ("cell c1", "1"),
+    ("cell c2", "2"),
+    ("cell c3", "3"),
+    ("code", "code field"),
+    ("thread", "thread"),
+    ("data", "data"),
+    ("record", "vocabulary"),
     ("other", "bytes of no word"),
 )
-ADVICE = ("The line is the chain of the newest word. Tab and the arrows go from word to word, "
-          "Enter to the word before in its chain.")
+ADVICE = "The line is the chain of the newest word. Tab and the arrows go from word to word, Enter to the word before in its chain."
 ALL, OWN, SYSTEM = "The dictionary, each byte a column", "Your words, each byte a column", "The Forth's own words"
 
 
@@ -268,8 +275,7 @@ def draw_one(one: regions.Map, wide: int) -> Canvas:
 
 def draw_changes(canvas: Canvas, changes: regions.Changes) -> None:
     canvas.line("What changed from the first to the second", "heading")
-    for text, headers in (("Words that came", changes.came), ("Words that went", changes.went),
-                          ("Words with other bytes", [header for _, header in changes.changed])):
+    for text, headers in (("Words that came", changes.came), ("Words that went", changes.went), ("Words with other bytes", [header for _, header in changes.changed])):
         names = " ".join(texts.shown(header.name) for header in headers[:200])
         canvas.line(f"{text}: {len(headers)}. {names}{' ..' if len(headers) > 200 else ''}")
     for name, before, after in changes.cells():
@@ -299,8 +305,7 @@ def draw_two(first: regions.Map, second: regions.Map, wide: int) -> Canvas:
 def drawing(canvas: Canvas, kind: str) -> str:
     """A drawing that is as wide as the window. Its box is printed; what is below the box is shown if the window has room for it."""
     box = f"0 0 {canvas.width} {canvas.on_paper or canvas.y}"
-    return (f'<svg class="{kind}" viewBox="{box}" preserveAspectRatio="xMinYMin meet" overflow="visible">{"".join(canvas.parts)}'
-            f'<g class="about"></g></svg>')
+    return f'<svg class="{kind}" viewBox="{box}" preserveAspectRatio="xMinYMin meet" overflow="visible">{"".join(canvas.parts)}<g class="about"></g></svg>'
 
 
 def height_of(canvas: Canvas, units: int) -> str:
@@ -312,13 +317,17 @@ def svg(wide: Canvas, narrow: Canvas, text: str) -> str:
     """One file of both drawings."""
     style = (HERE / "map.css").read_text(encoding="utf-8")
     script = (HERE / "map.js").read_text(encoding="utf-8")
-    sizes = (f".narrow {{ display: none; }} {height_of(wide, wide.y)}\n"
-             f"@media screen and (max-width: {wide.width * 3 // 4}px) {{ .wide {{ display: none; }} .narrow {{ display: inline; }} "
-             f"{height_of(narrow, narrow.y)} }}\n@media print {{ {height_of(wide, wide.on_paper or wide.y)} }}\n")
-    return (f'<?xml version="1.0" encoding="UTF-8"?>\n{MARK}\n<svg xmlns="http://www.w3.org/2000/svg" class="map">\n'
-            f'<title>{escape(text)}</title>\n<style>\n{style}{sizes}</style>\n'
-            f'<rect class="paper" width="100%" height="100%"/>\n{drawing(wide, "wide")}\n{drawing(narrow, "narrow")}\n'
-            f'<script><![CDATA[\n{script}]]></script>\n</svg>\n')
+    sizes = (
+        f".narrow {{ display: none; }} {height_of(wide, wide.y)}\n"
+        f"@media screen and (max-width: {wide.width * 3 // 4}px) {{ .wide {{ display: none; }} .narrow {{ display: inline; }} "
+        f"{height_of(narrow, narrow.y)} }}\n@media print {{ {height_of(wide, wide.on_paper or wide.y)} }}\n"
+    )
+    return (
+        f'<?xml version="1.0" encoding="UTF-8"?>\n{MARK}\n<svg xmlns="http://www.w3.org/2000/svg" class="map">\n'
+        f"<title>{escape(text)}</title>\n<style>\n{style}{sizes}</style>\n"
+        f'<rect class="paper" width="100%" height="100%"/>\n{drawing(wide, "wide")}\n{drawing(narrow, "narrow")}\n'
+        f"<script><![CDATA[\n{script}]]></script>\n</svg>\n"
+    )
 
 
 def map_of(one: regions.Map) -> str:

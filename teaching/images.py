@@ -15,8 +15,21 @@ MEMORY = 65536
 PAGE = 1024
 TIB_END, DICTIONARY = 256, 256
 CELLS = {
-    STATE: "STATE", BASE: "BASE", TO_IN: ">IN", BLK: "BLK", NUMBER_TIB: "#TIB", SPAN: "SPAN", DP: "DP", LAST: "LAST", CONTEXT: "CONTEXT",
-    CURRENT: "CURRENT", HLD: "HLD", SCR: "SCR", FAULT: "FAULT", VOC_LINK: "VOC-LINK", FENCE: "FENCE",
+    STATE: "STATE",
+    BASE: "BASE",
+    TO_IN: ">IN",
+    BLK: "BLK",
+    NUMBER_TIB: "#TIB",
+    SPAN: "SPAN",
+    DP: "DP",
+    LAST: "LAST",
+    CONTEXT: "CONTEXT",
+    CURRENT: "CURRENT",
+    HLD: "HLD",
+    SCR: "SCR",
+    FAULT: "FAULT",
+    VOC_LINK: "VOC-LINK",
+    FENCE: "FENCE",
 }
 CHAIN_TOO_LONG = 5  # a server's cause
 CAUSES = {
@@ -101,7 +114,7 @@ class Image:
 
     def used(self) -> int:
         """Where the bytes that are not 0 end, below the block buffers."""
-        return len(self.memory.bytes[:self.limit()].rstrip(b"\0"))
+        return len(self.memory.bytes[: self.limit()].rstrip(b"\0"))
 
     def _listed(self) -> Iterator[Header]:
         try:
@@ -147,8 +160,7 @@ class Image:
 
     def vocabularies(self) -> List[Tuple[str, int, List[int]]]:
         """Each vocabulary's name, record, and the link field that begins each of its four chains."""
-        return [(texts.shown(self._vocabulary_name(record)), record, [self.memory.cell(record + 2 * number) for number in range(4)])
-                for record in self._records()]
+        return [(texts.shown(self._vocabulary_name(record)), record, [self.memory.cell(record + 2 * number) for number in range(4)]) for record in self._records()]
 
 
 def opened(forth83: program.Program, path: pathlib.Path) -> Image:

@@ -68,7 +68,7 @@ def lessons_of(forth83: program.Program, course: pathlib.Path) -> List[Lesson]:
 
 def after(front: str, said: str) -> str:
     """A text without this at its beginning."""
-    return said[len(front):] if said.startswith(front) else said
+    return said[len(front) :] if said.startswith(front) else said
 
 
 def read(line: str) -> Tuple[Lesson, Result]:

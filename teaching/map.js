@@ -15,8 +15,10 @@ const beside = (word) => [...word.parentNode.querySelectorAll(".word")];
 
 function drawChain(word) {
   const all = new Map(beside(word).map((one) => [one.dataset.at, one])), chained = new Set();
-  for (let one = word; one && !chained.has(one.dataset.at); one = all.get(one.dataset.link)) chained.add(one.dataset.at);
-  for (const arc of word.parentNode.querySelectorAll(".link")) arc.classList.toggle("on", chained.has(arc.dataset.from));
+  for (let one = word; one && !chained.has(one.dataset.at); one = all.get(one.dataset.link))
+    chained.add(one.dataset.at);
+  for (const arc of word.parentNode.querySelectorAll(".link"))
+    arc.classList.toggle("on", chained.has(arc.dataset.from));
 }
 
 function describe(word) {
@@ -60,7 +62,9 @@ function first() {
 document.addEventListener("keydown", (event) => {
   const act = keys[event.key];
   if (!act || event.ctrlKey || event.altKey || event.metaKey) return;
-  const word = document.activeElement && document.activeElement.closest ? document.activeElement.closest(".word") : null;
+  const word = document.activeElement && document.activeElement.closest
+    ? document.activeElement.closest(".word")
+    : null;
   if (!word && !first()) return;
   event.preventDefault();
   if (word) act(word); else first().focus();

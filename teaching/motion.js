@@ -1,7 +1,8 @@
 // The step after this one, with its cells in motion.
 
 function boxes(list) {
-  return new Map([...document.querySelectorAll(`#${list} li[data-cell]`)].map((one) => [Number(one.dataset.cell), one.getBoundingClientRect()]));
+  return new Map([...document.querySelectorAll(`#${list} li[data-cell]`)].map(
+    (one) => [Number(one.dataset.cell), one.getBoundingClientRect()]));
 }
 
 // Shows the step after this one with its cells in motion.
@@ -14,7 +15,8 @@ function showMoved(time) {
   show();
   const from = origins(name, data, newData), top = newData.length - 1;
   for (const one of document.querySelectorAll("#data li[data-cell]")) {
-    const place = Number(one.dataset.cell), fromReturns = place === top && /^(R>|R@|I)$/.test(name) ? old.returns.get(returns.length - 1) : null;
+    const place = Number(one.dataset.cell);
+    const fromReturns = place === top && /^(R>|R@|I)$/.test(name) ? old.returns.get(returns.length - 1) : null;
     const box = fromReturns || (from[place] === null ? null : old.data.get(from[place]));
     if (box) fly(one, box, time);
     else appear(one, time);

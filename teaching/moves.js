@@ -1,11 +1,23 @@
-// Cells that move from one step to the next: SWAP crosses two, ROT turns three. Who prefers reduced motion sees none of it.
+// Cells that move from one step to the next: SWAP crosses two, ROT turns three. Who prefers reduced motion sees none
+// of it.
 const MOST_MOTION = 450;
 
-// Of words that move cells: how many of the top cells they take, and from which of these, the top being 0, those come that they leave,
-// the new top first.
+// Of words that move cells: how many of the top cells they take, and from which of these, the top being 0, those come
+// that they leave, the new top first.
 const CELL_MOVES = {
-  DUP: [1, [0, 0]], DROP: [1, []], SWAP: [2, [1, 0]], OVER: [2, [1, 0, 1]], ROT: [3, [2, 0, 1]], "2DUP": [2, [0, 1, 0, 1]], "2DROP": [2, []],
-  "2SWAP": [4, [2, 3, 0, 1]], "2OVER": [4, [2, 3, 0, 1, 2, 3]], "2ROT": [6, [4, 5, 0, 1, 2, 3]], "?DUP": [1, [0, 0]], NIP: [2, [0]], TUCK: [2, [0, 1, 0]],
+  DUP: [1, [0, 0]],
+  DROP: [1, []],
+  SWAP: [2, [1, 0]],
+  OVER: [2, [1, 0, 1]],
+  ROT: [3, [2, 0, 1]],
+  "2DUP": [2, [0, 1, 0, 1]],
+  "2DROP": [2, []],
+  "2SWAP": [4, [2, 3, 0, 1]],
+  "2OVER": [4, [2, 3, 0, 1, 2, 3]],
+  "2ROT": [6, [4, 5, 0, 1, 2, 3]],
+  "?DUP": [1, [0, 0]],
+  NIP: [2, [0]],
+  TUCK: [2, [0, 1, 0]],
 };
 
 // From which cell of a stack each cell of it comes, by the step's word: numbers from the bottom, null for what is new.
@@ -28,13 +40,18 @@ function afterNumber(name, before, after) {
 
 const isStill = matchMedia("(prefers-reduced-motion: reduce)");
 
-// Moves a cell from where it was to its place. A cell that rises over others moves in a bow, so that one can see them cross.
+// Moves a cell from where it was to its place. A cell that rises over others moves in a bow, so that one can see them
+// cross.
 function fly(one, from, time) {
   const to = one.getBoundingClientRect(), [x, y] = [from.left - to.left, from.top - to.top];
   if (!x && !y) return;
   const bow = y > 1 ? -0.35 * to.width : 0;
   one.style.zIndex = y > 1 ? 1 : 0;
-  one.animate([{ transform: `translate(${x}px, ${y}px)` }, { transform: `translate(${x / 2 + bow}px, ${y / 2}px)` }, { transform: "none" }],
+  one.animate(
+    [
+      { transform: `translate(${x}px, ${y}px)` }, { transform: `translate(${x / 2 + bow}px, ${y / 2}px)` },
+      { transform: "none" }
+    ],
     { duration: time, easing: "ease-in-out" });
 }
 

@@ -8,14 +8,16 @@ function column(place) {
   let same = 0;
   while (same < data.length && same < old.length && data[same] === old[same]) same++;
   const low = data.length > most ? data.length - most + 1 : 0;
-  for (let one = data.length - 1; one >= low; one--) button.append(element("span", cell(data[one]), one >= same && data !== old ? "new" : ""));
+  for (let one = data.length - 1; one >= low; one--)
+    button.append(element("span", cell(data[one]), one >= same && data !== old ? "new" : ""));
   if (low) button.append(element("small", `${low} more`));
   const name = steps[number][0] < 0 ? "end" : described(number).name;
   button.append(element("b", name), element("small", String(place + 1)));
   button.type = "button";
   button.tabIndex = -1;
   button.dataset.at = place;
-  button.setAttribute("aria-label", `step ${place + 1}, ${name}, stack ${data.slice(low).reverse().map(cell).join(" ") || "empty"}`);
+  button.setAttribute(
+    "aria-label", `step ${place + 1}, ${name}, stack ${data.slice(low).reverse().map(cell).join(" ") || "empty"}`);
   button.addEventListener("click", () => go(place));
   item.append(button);
   return item;
@@ -30,7 +32,8 @@ function roomOf(list) {
 // Makes the columns around the step, if others are needed, and marks the step's own column.
 function showTime() {
   const wanted = Math.max(0, Math.min(at - COLUMNS / 2, visible.length - COLUMNS)), list = part("columns");
-  const isThere = shownOf === visible && at >= shownFrom && at < shownFrom + COLUMNS && list.dataset.hex === String(hex) && most === roomOf(list);
+  const isThere = shownOf === visible && at >= shownFrom && at < shownFrom + COLUMNS &&
+    list.dataset.hex === String(hex) && most === roomOf(list);
   if (!isThere) {
     most = roomOf(list);
     [shownFrom, shownOf, list.dataset.hex] = [wanted, visible, String(hex)];

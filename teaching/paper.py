@@ -17,7 +17,7 @@ WHO = '<p class="who">Name<span></span>Date<span></span></p>'
 def figure(read: screens.Screens, number: int) -> str:
     """A screen with its number and its lines."""
     lines = read.lines.get(number, []) + [""] * screens.LINES
-    text = "\n".join(f"{at:2} {line}".rstrip() for at, line in enumerate(lines[:screens.LINES]))
+    text = "\n".join(f"{at:2} {line}".rstrip() for at, line in enumerate(lines[: screens.LINES]))
     return f"<figure><figcaption>Screen {number}</figcaption><pre>{escape(text)}</pre></figure>"
 
 
@@ -31,7 +31,7 @@ def row(read: screens.Screens, number: int, shadow: int) -> str:
 def pages(read: screens.Screens, numbers: List[int], shadow: int, name: str) -> Iterator[str]:
     count = -(-len(numbers) // A_PAGE)
     for page in range(count):
-        some = numbers[page * A_PAGE:(page + 1) * A_PAGE]
+        some = numbers[page * A_PAGE : (page + 1) * A_PAGE]
         rows = "".join(row(read, number, shadow) for number in some)
         title = f"{escape(name)}: screens {some[0]} to {some[-1]} <small>page {page + 1} of {count}</small>"
         yield f'<section class="page"><h2>{title}</h2>{rows}</section>'
@@ -85,8 +85,10 @@ def document(name: str, parts: List[str], is_wide: bool) -> str:
     style = "".join((HERE / file).read_text(encoding="utf-8") for file in ("print.css", "wide.css" if is_wide else "tall.css"))
     allowed = "sha256-" + base64.b64encode(hashlib.sha256(style.encode()).digest()).decode()
     policy = f"default-src 'none'; style-src '{allowed}'"
-    head = (f'<!DOCTYPE html>\n{MARK}\n<html lang="en"><head><meta charset="utf-8">'
-            f'<meta http-equiv="Content-Security-Policy" content="{policy}">'
-            f'<meta name="viewport" content="width=device-width, initial-scale=1">'
-            f"<title>{escape(name)}</title><style>{style}</style></head>")
+    head = (
+        f'<!DOCTYPE html>\n{MARK}\n<html lang="en"><head><meta charset="utf-8">'
+        f'<meta http-equiv="Content-Security-Policy" content="{policy}">'
+        f'<meta name="viewport" content="width=device-width, initial-scale=1">'
+        f"<title>{escape(name)}</title><style>{style}</style></head>"
+    )
     return f"{head}\n<body>\n{WHO}\n" + "\n".join(parts) + "\n</body></html>\n"

@@ -88,16 +88,31 @@ function blacken() { part("black").hidden = !part("black").hidden; }
 
 const keys = {
   ArrowRight: () => goByHand(at + 1), ArrowLeft: () => goByHand(at - 1), ArrowDown: unfold, ArrowUp: fold,
-  PageDown: () => goByHand(at + 1), PageUp: () => goByHand(at - 1), Home: () => goByHand(0), End: () => goByHand(visible.length - 1),
-  " ": play, "+": () => changeSpeed(1), "-": () => changeSpeed(-1), a: foldAll, t: changeView, x: rebase, p: () => print(), b: blacken, ".": blacken,
+  PageDown: () => goByHand(at + 1),
+  PageUp: () => goByHand(at - 1),
+  Home: () => goByHand(0),
+  End: () => goByHand(visible.length - 1),
+  " ": play,
+  "+": () => changeSpeed(1),
+  "-": () => changeSpeed(-1),
+  a: foldAll,
+  t: changeView,
+  x: rebase,
+  p: () => print(),
+  b: blacken,
+  ".": blacken,
   s: () => part("system").click(), "?": () => { part("help").open = !part("help").open; },
 };
 const shifted = {
-  ArrowRight: () => goByHand(at + 10), PageDown: () => goByHand(at + 10), ArrowLeft: () => goByHand(at - 10), PageUp: () => goByHand(at - 10),
+  ArrowRight: () => goByHand(at + 10),
+  PageDown: () => goByHand(at + 10),
+  ArrowLeft: () => goByHand(at - 10),
+  PageUp: () => goByHand(at - 10),
 };
 const SCROLLING = new Set(["ArrowUp", "ArrowDown", "PageUp", "PageDown", "Home", "End"]);
 
-// Whether a key is for what has the focus: the space bar for a button, the arrows for a choice, and for a box that doesn't fit.
+// Whether a key is for what has the focus: the space bar for a button, the arrows for a choice, and for a box that
+// doesn't fit.
 function isForFocus({ target, key }) {
   if (!target.closest) return false;
   if (target.closest("select")) return key !== "Escape";
@@ -116,7 +131,16 @@ function press(event) {
 }
 
 const buttons = {
-  first: "Home", back: "ArrowLeft", forth: "ArrowRight", last: "End", into: "ArrowDown", out: "ArrowUp", all: "a", base: "x", paper: "p", play: " ",
+  first: "Home",
+  back: "ArrowLeft",
+  forth: "ArrowRight",
+  last: "End",
+  into: "ArrowDown",
+  out: "ArrowUp",
+  all: "a",
+  base: "x",
+  paper: "p",
+  play: " ",
   view: "t", black: "b",
 };
 for (const [id, key] of Object.entries(buttons)) part(id).addEventListener("click", () => keys[key]());

@@ -16,7 +16,7 @@ NAMING = {":", "[COMPILE]", "[']", "'"}
 
 def flat(lines: List[str]) -> str:
     """A screen as its 1,024 bytes: a word at the end of a line continues in the next line."""
-    padded = [line.ljust(screens.WIDTH)[:screens.WIDTH] for line in lines]
+    padded = [line.ljust(screens.WIDTH)[: screens.WIDTH] for line in lines]
     return "".join(padded).ljust(screens.BYTES)
 
 
@@ -92,6 +92,5 @@ class References:
         """Where a word that is defined here is used, also in lower case."""
         places = list(self.used.get(name, []))
         if name.upper() == name and name.lower() != name:
-            places += [place for word, found in self.used.items() if word != name and word.upper() == name for place in found
-                       if word not in self.defined]
+            places += [place for word, found in self.used.items() if word != name and word.upper() == name for place in found if word not in self.defined]
         return sorted(set(places))

@@ -29,8 +29,12 @@ class Map:
 
     def outline(self) -> List[Tuple[int, int, str, str]]:
         """All of memory in a few regions, each with a description."""
-        rows = [(0, images.TIB, "system", "system cells"), (images.TIB, images.TIB_END, "tib", "TIB, the line that is typed"),
-                (images.DICTIONARY, self.top, "words", "the dictionary"), (self.top, self.limit, "free", "free room")]
+        rows = [
+            (0, images.TIB, "system", "system cells"),
+            (images.TIB, images.TIB_END, "tib", "TIB, the line that is typed"),
+            (images.DICTIONARY, self.top, "words", "the dictionary"),
+            (self.top, self.limit, "free", "free room"),
+        ]
         for slot in range(self.image.buffers):
             begins = self.limit + images.PAGE * slot
             rows.append((begins, begins + images.PAGE, "buffer", f"block buffer {slot}"))
@@ -55,8 +59,7 @@ class Map:
 
 def parts_of(header: images.Header) -> List[Region]:
     kind = KINDS.get(header.code, "data")
-    return [Region(header.begins, header.code_field, "header", header), Region(header.code_field, header.body, "code", header),
-            Region(header.body, header.end, kind, header)]
+    return [Region(header.begins, header.code_field, "header", header), Region(header.code_field, header.body, "code", header), Region(header.body, header.end, kind, header)]
 
 
 def what(header: images.Header) -> str:

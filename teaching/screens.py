@@ -33,7 +33,7 @@ def characters(data: bytes) -> str:
 
 def lines_of(block: bytes) -> List[str]:
     """The lines of a block, up to the last that isn't blank, without the blanks at their ends."""
-    lines = [characters(block[at:at + WIDTH]).rstrip(" ") for at in range(0, BYTES, WIDTH)]
+    lines = [characters(block[at : at + WIDTH]).rstrip(" ") for at in range(0, BYTES, WIDTH)]
     while lines and not lines[-1]:
         lines.pop()
     return lines
@@ -48,7 +48,7 @@ def read(name: str) -> Screens:
     if len(content) % BYTES or not content:
         raise program.Refusal(f"{path} has {len(content)} bytes, which is not a whole number of blocks")
     screens = Screens()
-    screens.lines = {at // BYTES: lines_of(content[at:at + BYTES]) for at in range(0, len(content), BYTES)}
+    screens.lines = {at // BYTES: lines_of(content[at : at + BYTES]) for at in range(0, len(content), BYTES)}
     return screens
 
 

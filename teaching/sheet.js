@@ -1,11 +1,13 @@
-// What is printed: the visible steps as a table. As an exercise the data stack and the output are left blank, and the answers come on pages of
-// their own.
+// What is printed: the visible steps as a table. As an exercise the data stack and the output are left blank, and the
+// answers come on pages of their own.
 const MOST_ROWS = 150, MOST_PRINTED = 12, MOST_LETTERS = 60;
 
 // The cells of a row: the step, its address, the word, the stacks, the output.
 function printed(row, isBlank, hasReturns) {
-  const number = visible[row], step = steps[number], isEnd = step[0] < 0, [data, returns] = stacks(number), line = element("tr");
-  const indent = "  ".repeat(chain(step[1]).length - 1), word = isEnd ? `end of ${wordName(step[1])}` : printedWord(step[0]);
+  const number = visible[row], step = steps[number], isEnd = step[0] < 0, [data, returns] = stacks(number);
+  const line = element("tr");
+  const indent = "  ".repeat(chain(step[1]).length - 1);
+  const word = isEnd ? `end of ${wordName(step[1])}` : printedWord(step[0]);
   const add = (text, kind) => line.append(element("td", text, kind));
   add(String(row + 1));
   add(isEnd ? "" : unsigned(film.places[step[0]][0]));
@@ -19,12 +21,17 @@ function printed(row, isBlank, hasReturns) {
 // A word as the source has it; with a jump, also what it was compiled as.
 function printedWord(place) {
   const source = spelled(place), as = token(place);
-  return source === null || source.toUpperCase() === as.toUpperCase() ? as : film.places[place][3].startsWith("to ") ? `${source}  ${as}` : source;
+  return source === null || source.toUpperCase() === as.toUpperCase()
+    ? as
+    : film.places[place][3].startsWith("to ") ? `${source}  ${as}`
+    : source;
 }
 
 function printedReturns(step, returns) {
   const labels = returnLabels(step), own = Math.max(ownReturns(step), returns.length - MOST_PRINTED);
-  return returns.map((value, place) => (labels.has(place) ? labels.get(place).show(value) : cell(signed(value)))).slice(own).join(" ");
+  return returns.map((value, place) => (labels.has(place) ? labels.get(place).show(value) : cell(signed(value))))
+    .slice(own)
+    .join(" ");
 }
 
 // The output before a step; of a long one its end.
@@ -34,9 +41,14 @@ function outputSoFar(step) {
 }
 
 function table(isBlank, kind) {
-  const made = element("table", undefined, kind), head = element("thead"), titles = element("tr"), body = element("tbody");
-  const rows = visible.slice(0, MOST_ROWS), hasReturns = !isBlank && rows.some((number) => stacks(number)[1].length > ownReturns(steps[number]));
-  const names = ["step", "address", "the next word", "data stack before it, top at the right", ...(hasReturns ? ["return stack"] : []), "output so far"];
+  const made = element("table", undefined, kind), head = element("thead"), titles = element("tr");
+  const body = element("tbody");
+  const rows = visible.slice(0, MOST_ROWS);
+  const hasReturns = !isBlank && rows.some((number) => stacks(number)[1].length > ownReturns(steps[number]));
+  const names = [
+    "step", "address", "the next word", "data stack before it, top at the right",
+    ...(hasReturns ? ["return stack"] : []), "output so far"
+  ];
   for (const title of names) titles.append(element("th", title));
   head.append(titles);
   rows.forEach((_, row) => body.append(printed(row, isBlank, hasReturns)));
@@ -59,7 +71,10 @@ function sources() {
 function fillSheet() {
   const isBlank = part("blank").checked, made = [...sources()];
   if (isBlank) made.unshift(who());
-  if (isBlank) made.push(element("p", "What is on the data stack before each step, and what has been shown by then?"), table(true, "exercise"));
+  if (isBlank)
+    made.push(
+      element("p", "What is on the data stack before each step, and what has been shown by then?"),
+      table(true, "exercise"));
   if (isBlank) made.push(element("h2", "Answers", "answers"));
   made.push(table(false, ""));
   if (visible.length > MOST_ROWS) made.push(element("p", `The first ${MOST_ROWS} of ${visible.length} steps.`));

@@ -3,19 +3,27 @@ const MOST_CELLS = 60, MOST_SHOWN = 48, PATH_ENDS = 4;
 
 // What words of structures do when they run, by the word of the source.
 const PLAIN = {
-  IF: "Takes a flag. If it is 0, jumps to the words after ELSE, or else to THEN.", ELSE: "The first branch is done: jumps to THEN.",
+  IF: "Takes a flag. If it is 0, jumps to the words after ELSE, or else to THEN.",
+  ELSE: "The first branch is done: jumps to THEN.",
   BEGIN: "The loop begins.", WHILE: "Takes a flag. If it is 0, the loop ends: jumps to the word after REPEAT.",
-  REPEAT: "Jumps back to BEGIN.", AGAIN: "Jumps back to BEGIN.", UNTIL: "Takes a flag. If it is 0, jumps back to BEGIN.",
+  REPEAT: "Jumps back to BEGIN.",
+  AGAIN: "Jumps back to BEGIN.",
+  UNTIL: "Takes a flag. If it is 0, jumps back to BEGIN.",
   DO: "Takes the limit and the first index, and begins the loop.",
   "?DO": "Takes the limit and the first index. If they are equal, skips the loop.",
   LOOP: "Adds 1 to the index. If it isn't at the limit yet, jumps back to the word after DO.",
-  "+LOOP": "Takes a number and adds it to the index. Jumps back to the word after DO, until the index crosses the limit.",
-  OF: "Compares the two top numbers. If they differ, jumps to the word after ENDOF.", ENDOF: "Jumps to the word after ENDCASE.",
+  "+LOOP":
+    "Takes a number and adds it to the index. Jumps back to the word after DO, until the index crosses the limit.",
+  OF: "Compares the two top numbers. If they differ, jumps to the word after ENDOF.",
+  ENDOF: "Jumps to the word after ENDCASE.",
   ENDCASE: "Drops the number that CASE looked at.", ";": "The word ends. The word that called it continues.",
   "DOES>": "Ends the making of a new word, which will run what follows.", RECURSE: "Calls the word itself.",
 };
 // What a number in a thread is, by the word of the source that compiled it.
-const LITERAL_OF = { "[']": "Puts the address of this word on the stack.", ASCII: "Puts the code of this character on the stack." };
+const LITERAL_OF = {
+  "[']": "Puts the address of this word on the stack.",
+  ASCII: "Puts the code of this character on the stack."
+};
 
 function marked(found, now, kind) {
   const outer = around(found.words, now), made = [];
@@ -74,9 +82,11 @@ function plainly(source, as) {
 
 // The next word as the source has it, what it was compiled as, and what it does.
 function described(number) {
-  const place = steps[number][0], source = spelled(place), as = token(place), [effect, says] = film.says[film.places[place][4]];
+  const place = steps[number][0], source = spelled(place), as = token(place);
+  const [effect, says] = film.says[film.places[place][4]];
   const isSame = source === null || source.toUpperCase() === as.toUpperCase();
-  return { name: isSame ? as : source, as: isSame ? "" : `compiled as ${as}`, effect, says: plainly(source, as) || says };
+  const [name, compiled] = isSame ? [as, ""] : [source, `compiled as ${as}`];
+  return { name, as: compiled, effect, says: plainly(source, as) || says };
 }
 
 function showNext(number) {
@@ -93,19 +103,25 @@ function showNext(number) {
     parts.push(element("small", open[child[number]] ? "a call, unfolded" : "a call, folded: ↓ unfolds it"));
   }
   if (at === visible.length - 1 && (film.is_cut || endings.size)) {
-    parts.push(element("small", film.is_cut ? "The film ends here; the run continued." : endings.get(chain(step[1])[0]) || ""));
+    parts.push(
+      element("small", film.is_cut ? "The film ends here; the run continued." : endings.get(chain(step[1])[0]) || ""));
   }
   box.replaceChildren(...parts);
 }
 
 // A stack as cells, the top first; those that the step before did not have are new.
 function showStack(place, cells, before, labels, lowest) {
-  const list = document.querySelector(`#${place} ol`), made = [], first = Math.max(0, cells.length - MOST_CELLS, part("system").checked ? 0 : lowest);
+  const list = document.querySelector(`#${place} ol`), made = [];
+  const first = Math.max(0, cells.length - MOST_CELLS, part("system").checked ? 0 : lowest);
   let same = 0;
   while (same < cells.length && same < before.length && cells[same] === before[same]) same++;
   if (cells.length <= first) made.push(element("li", "empty", "none"));
   for (let number = cells.length - 1; number >= first; number--) {
-    const one = element("li", place === "data" || labels.get(number) === undefined ? cell(cells[number]) : labels.get(number).show(cells[number]));
+    const one = element(
+      "li",
+      place === "data" || labels.get(number) === undefined
+        ? cell(cells[number])
+        : labels.get(number).show(cells[number]));
     one.dataset.cell = number;
     if (number >= same && before !== cells) one.classList.add("new");
     if (number === cells.length - 1) one.classList.add("top");
@@ -122,9 +138,11 @@ function showStack(place, cells, before, labels, lowest) {
 
 // What cells of the return stack are: addresses to go back to, and what a counted loop keeps there.
 function returnLabels(step) {
-  const labels = new Map(chain(step[1]).map((one) => [frames[one][2], { text: `back to ${frames[one][4]}`, show: unsigned }]));
+  const labels = new Map(
+    chain(step[1]).map((one) => [frames[one][2], { text: `back to ${frames[one][4]}`, show: unsigned }]));
   const kept = [["end of loop", unsigned], ["limit", cell], ["index", cell]];
-  for (const base of film.loops[step[5]]) kept.forEach(([text, show], number) => labels.set(base + number, { text, show: (value) => show(signed(value)) }));
+  for (const base of film.loops[step[5]])
+    kept.forEach(([text, show], number) => labels.set(base + number, { text, show: (value) => show(signed(value)) }));
   return labels;
 }
 
@@ -154,12 +172,20 @@ function cellsOf(one, now, old) {
   const change = Array.from({ length: count }, (_, place) => place).find(isNew) || 0;
   const first = count > MOST_SHOWN ? Math.max(0, Math.min(count - MOST_SHOWN, change - MOST_SHOWN / 2)) : 0;
   for (let place = first; place < Math.min(count, first + MOST_SHOWN); place++) {
-    const span = element("span", size === 1 && hex ? value(now, place).toString(16).toUpperCase().padStart(2, "0") : size === 1 ? String(value(now, place)) : cell(value(now, place)), isNew(place) ? "new" : "");
+    const span = element(
+      "span",
+      size === 1 && hex
+        ? value(now, place).toString(16).toUpperCase().padStart(2, "0")
+        : size === 1 ? String(value(now, place))
+        : cell(value(now, place)),
+      isNew(place) ? "new" : "");
     span.title = `${one.name}, at ${unsigned(one.address + size * place)}`;
     made.push(span);
   }
-  if (first || count > MOST_SHOWN) made.push(element("small", `${first} to ${Math.min(count, first + MOST_SHOWN) - 1} of ${count}`));
-  if (size === 1 && now.some((byte) => byte > 32)) made.push(element("q", new TextDecoder("latin1").decode(Uint8Array.from(now)).replace(/[^ -~]/g, "·")));
+  if (first || count > MOST_SHOWN)
+    made.push(element("small", `${first} to ${Math.min(count, first + MOST_SHOWN) - 1} of ${count}`));
+  if (size === 1 && now.some((byte) => byte > 32))
+    made.push(element("q", new TextDecoder("latin1").decode(Uint8Array.from(now)).replace(/[^ -~]/g, "·")));
   return made;
 }
 
@@ -180,11 +206,13 @@ function showMemory(number, before) {
 // The calls that the step is in; of many the first one and the last ones.
 function showPath(frame) {
   const names = chain(frame).map(wordName), most = PATH_ENDS + 2;
-  if (names.length > most) names.splice(1, names.length - PATH_ENDS - 1, `… ${names.length - PATH_ENDS - 1} calls …`);
+  const left = names.length - PATH_ENDS - 1;
+  if (names.length > most) names.splice(1, left, `… ${left} calls …`);
   part("path").textContent = names.length > 1 || names[0] !== film.name ? names.join(" › ") : "";
 }
 
-// The line that was typed, or the screen's line that was loaded, with its word that the step is in; a film of the page knows these.
+// The line that was typed, or the screen's line that was loaded, with its word that the step is in; a film of the page
+// knows these.
 function showLine(frame) {
   const line = film.lines && film.lines[frames[chain(frame)[0]][6]];
   if (!line) return;
@@ -195,7 +223,8 @@ function showLine(frame) {
 
 // The step as a sentence, for screen readers.
 function say(number, data) {
-  const step = steps[number], next = step[0] < 0 ? `The end. ${endings.get(step[1]) || ""}` : `Next: ${described(number).name}.`;
+  const step = steps[number];
+  const next = step[0] < 0 ? `The end. ${endings.get(step[1]) || ""}` : `Next: ${described(number).name}.`;
   const cells = data.length ? data.slice(-8).reverse().map(cell).join(", ") : "empty";
   const shown = ` Output: ${text(film.begins, step[4]).trim().slice(-80) || "nothing yet"}.`;
   part("said").textContent = `Step ${at + 1} of ${visible.length}. ${next} Data stack, top first: ${cells}.${shown}`;

@@ -115,13 +115,11 @@ def page_row(lessons: List[Lesson], row: Row) -> str:
     name = f'<th scope="row">{html.escape(readable(row.name))}</th>'
     if row.refused:
         return f'<tr>{name}<td colspan="{len(lessons) + 1}">not checked: {html.escape(readable(row.refused))}</td></tr>'
-    cells = "".join(f'<td class="{one.mark}" aria-label="{one.mark}" title="{html.escape(readable(one.text))}">{SIGNS[one.mark]}</td>'
-                    for one in row.results)
+    cells = "".join(f'<td class="{one.mark}" aria-label="{one.mark}" title="{html.escape(readable(one.text))}">{SIGNS[one.mark]}</td>' for one in row.results)
     return f"<tr>{name}{cells}<td>{row.right()}</td></tr>"
 
 
 def page_notes(lessons: List[Lesson], row: Row) -> str:
     """What CHECK says of the lessons of a pupil that are not right."""
-    wrong = [f"<dd>{lesson.number}: <code>{html.escape(readable(one.text))}</code></dd>"
-             for lesson, one in zip(lessons, row.results) if one.mark not in (RIGHT, "empty")]
+    wrong = [f"<dd>{lesson.number}: <code>{html.escape(readable(one.text))}</code></dd>" for lesson, one in zip(lessons, row.results) if one.mark not in (RIGHT, "empty")]
     return f"<dt>{html.escape(readable(row.name))}</dt>{''.join(wrong)}" if wrong else ""

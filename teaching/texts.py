@@ -14,8 +14,7 @@ def shown(name: bytes) -> str:
 
 def file_name(name: bytes, suffix: str) -> str:
     """A name as a part of a file's name: what isn't a letter, a digit or a `-` within is `_` and its number."""
-    parts = [chr(byte) if chr(byte).isalnum() and byte < 128 or byte == 45 and place else "_%02X" % byte
-             for place, byte in enumerate(name)]
+    parts = [chr(byte) if chr(byte).isalnum() and byte < 128 or byte == 45 and place else "_%02X" % byte for place, byte in enumerate(name)]
     return "".join(parts) + suffix
 
 
