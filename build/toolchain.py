@@ -1,17 +1,32 @@
+#!/usr/bin/env python3
 """The inside of the Rattle toolchain that this repository counts on: TOOLCHAIN.md says what, and what we would ask its makers for.
+
+    build/toolchain.py native TREE PROGRAM [CRATE [WORD..]]
+    build/toolchain.py stamp CRATE
+
+`native` compiles a crate of the sources in TREE without its proofs, with optimization, to the file PROGRAM. The crate is forth83 unless another is
+named. Before the program is kept it is run once, with these words (forth83: --version). If that can't be done with this toolchain, the status
+is 1, it is said why, and nothing is made.
+
+`stamp` lets `rt lib` of CRATE use the libraries below it that `rt ci` has just proved in this tree, so that it does not prove them again. It
+is only for the trials that follow the proofs of `./test`. If it can't be done, `rt lib` proves the libraries itself.
 
 Everything else calls the command `rt` as its help describes it. If the toolchain has another layout than this module knows, `Unknown` says what
 is missing, and the caller does without: it proves more often, or says that it makes nothing.
 """
+import argparse
 import importlib.machinery
 import importlib.util
 import os
 import pathlib
 import shutil
 import subprocess
+import sys
+import tempfile
 import types
 from typing import List, Sequence
 
+ROOT = pathlib.Path(__file__).resolve().parent.parent
 RATTLE, LINKER, TOOLS, CLANG = "bin/rattle", "bin/rattle-link", "toolchain/bin", "toolchain/bin/clang"
 SYSTEM, RUNTIME = "c/libos_c.a", "c/liblibc_c.a"
 PARTS = ("bin/rt", "bin/rtlib.py", RATTLE, LINKER, CLANG, SYSTEM, RUNTIME)
@@ -28,7 +43,12 @@ exec "{clang}" "$@"
 
 
 class Unknown(Exception):
-    """Why the toolchain's inside can't be used."""
+    """Why the toolchain's inside can't be used, or why nothing was made by it."""
+
+
+def last_line(said: str) -> str:
+    """The last line of what a command said."""
+    return (said.strip().splitlines() or ["nothing was said"])[-1]
 
 
 def folder() -> pathlib.Path:
@@ -79,8 +99,8 @@ def called(words: Sequence[object], room: pathlib.Path, name: str) -> None:
     """Calls a command of the toolchain in a folder; of one that fails, a line is said."""
     done = subprocess.run([str(word) for word in words], cwd=room, stdin=subprocess.DEVNULL, capture_output=True, text=True, errors="replace", check=False)
     if done.returncode:
-        lines = (done.stdout + done.stderr).strip().splitlines() or ["nothing was said"]
-        raise Unknown(f"{name}: {next((line for line in lines if 'error' in line), lines[-1])}")
+        said = done.stdout + done.stderr
+        raise Unknown(f"{name}: {next((line for line in said.splitlines() if 'error' in line), last_line(said))}")
 
 
 def native(tree: pathlib.Path, program: pathlib.Path, crate: str, words: Sequence[str], room: pathlib.Path) -> None:
@@ -91,14 +111,20 @@ def native(tree: pathlib.Path, program: pathlib.Path, crate: str, words: Sequenc
     kit, rt = folder(), linked(room)
     replaced(room, CLANG, KEEPER.format(room=room, clang=kit / CLANG))
     (room / "tried").mkdir()
-    done = subprocess.run([rt, "try", "--", *words], cwd=tree / "crates" / crate, env={**os.environ, "TMPDIR": str(room / "tried")},
-                          stdin=subprocess.DEVNULL, capture_output=True, text=True, errors="replace", check=False)
+    done = subprocess.run(
+        [rt, "try", "--", *words],
+        cwd=tree / "crates" / crate,
+        env={**os.environ, "TMPDIR": str(room / "tried")},
+        stdin=subprocess.DEVNULL,
+        capture_output=True,
+        text=True,
+        errors="replace",
+        check=False,
+    )
     if not (room / "words").is_file():
-        said = (done.stdout + done.stderr).strip().splitlines() or ["nothing was said"]
-        raise Unknown(f"rt try gave clang no module: {said[-1]}")
+        raise Unknown(f"rt try gave clang no module: {last_line(done.stdout + done.stderr)}")
     called([kit / CLANG, *optimized(room)], room, "clang")
-    called([kit / LINKER, "--target", "x86_64-unknown-linux-gnu", "--toolchain", kit / "toolchain", "-o", "made", "module.o",
-            kit / SYSTEM, kit / RUNTIME], room, "rattle-link")
+    called([kit / LINKER, "--target", "x86_64-unknown-linux-gnu", "--toolchain", kit / "toolchain", "-o", "made", "module.o", kit / SYSTEM, kit / RUNTIME], room, "rattle-link")
     called(["./made", *words], room, "the program that was compiled does not run")
     shutil.copy(room / "made", program)
 
@@ -131,3 +157,31 @@ def stamp_below(crate: pathlib.Path) -> None:
                 library.with_name("stamp").write_text(below.stamp(), encoding="ascii")
     except (AttributeError, TypeError, OSError) as error:
         raise Unknown(f"rt is not as it is known here: {error}") from None
+
+
+def main() -> int:
+    """Does what is asked for."""
+    words = argparse.ArgumentParser(prog="build/toolchain.py", description="Compiles a program without its proofs, or spares libraries a second proof.")
+    ways = words.add_subparsers(dest="way", required=True)
+    compiles = ways.add_parser("native", help="compile a crate without its proofs")
+    compiles.add_argument("tree", type=pathlib.Path, metavar="TREE")
+    compiles.add_argument("program", type=pathlib.Path, metavar="PROGRAM")
+    compiles.add_argument("crate", metavar="CRATE", nargs="?")
+    compiles.add_argument("words", metavar="WORD", nargs="*")
+    ways.add_parser("stamp", help="let rt lib use the libraries that rt ci has just proved").add_argument("crate", metavar="CRATE")
+    asked = words.parse_args()
+    try:
+        if asked.way == "stamp":
+            stamp_below(ROOT / "crates" / asked.crate)
+            return 0
+        with tempfile.TemporaryDirectory() as room:
+            trial = asked.words if asked.crate else ["--version"]
+            native(asked.tree.resolve(), asked.program.resolve(), asked.crate or "forth83", trial, pathlib.Path(room))
+    except Unknown as error:
+        print(f"toolchain: rt lib proves the libraries again ({error})" if asked.way == "stamp" else error, file=sys.stderr)
+        return 0 if asked.way == "stamp" else 1
+    return 0
+
+
+if __name__ == "__main__":
+    sys.exit(main())

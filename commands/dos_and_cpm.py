@@ -45,7 +45,7 @@ def sectors_of(disk: pathlib.Path, room: pathlib.Path) -> pathlib.Path:
         return disk
     rest = re.search(r"^(\d+) bytes after the last", done.text, re.M)
     if rest:
-        front = whole.read_bytes()[:int(rest[1])]
+        front = whole.read_bytes()[: int(rest[1])]
         program(["unpack", str(disk), str(end), "--offset", rest[1]])
         whole.write_bytes(front + (end.read_bytes() if end.exists() else b""))
     return whole
@@ -71,10 +71,7 @@ def definitions_of(size: int) -> Iterator[Tuple[str, int]]:
 
 def is_directory(sector: bytes) -> bool:
     """Whether a sector alone is a directory of CP/M to the program."""
-    with tempfile.TemporaryDirectory() as room:
-        place = pathlib.Path(room, "sector")
-        place.write_bytes(sector)
-        return program(["guess", str(place), "--files"]).text.startswith(f"{CPM}\n")
+    return program(["guess", "/dev/stdin", "--files"], given=sector).text.startswith(f"{CPM}\n")
 
 
 def cpm_files(disk: pathlib.Path) -> Files:
@@ -82,7 +79,7 @@ def cpm_files(disk: pathlib.Path) -> Files:
     if shutil.which("cpmls") is None:
         raise Wild("its files need cpmls and cpmcp, which are not installed: apt install cpmtools")
     data = disk.read_bytes()
-    named = {definition: cpm_names(disk, definition) for definition, at in definitions_of(len(data)) if is_directory(data[at:at + 128])}
+    named = {definition: cpm_names(disk, definition) for definition, at in definitions_of(len(data)) if is_directory(data[at : at + 128])}
     most = max(map(len, named.values()), default=0)
     fitting = [definition for definition, names in named.items() if len(names) == most]
     if not most:
@@ -102,10 +99,7 @@ def cpm_names(disk: pathlib.Path, definition: str) -> List[Tuple[str, str]]:
 
 def likeness(content: bytes) -> float:
     """How much a file looks like source."""
-    with tempfile.TemporaryDirectory() as room:
-        place = pathlib.Path(room, "file")
-        place.write_bytes(content)
-        return float(program(["guess", str(place), "--score"]).text)
+    return float(program(["guess", "/dev/stdin", "--score"], given=content).text)
 
 
 def cpm_file(disk: pathlib.Path, definitions: List[str], name: str) -> bytes:

@@ -106,7 +106,7 @@ def word_of(part: str, section: str, line: str, known: Dict[str, Primitive]) -> 
     if len(fields) != (3 if part == INNER else 4 if fields[1:2] == [PRIMITIVE] else 5):
         raise Malformed(line)
     name, is_immediate = named(fields[0])
-    typed, shown = (fields[-2:] if part != INNER else ("", ""))
+    typed, shown = fields[-2:] if part != INNER else ("", "")
     if fields[1] != PRIMITIVE:
         return Word(part, section, name, fields[1], is_immediate, fields[2], example_of(typed), shown)
     if name not in known:

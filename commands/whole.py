@@ -1,6 +1,7 @@
 """Writes files whole: a new one takes the place of the old one when all of it is written, and otherwise the old one stays."""
 from __future__ import annotations
 
+import itertools
 import os
 
 
@@ -25,12 +26,15 @@ def replace(path: str | os.PathLike[str], content: bytes, like: str = "") -> Non
 
 def put_aside(path: str) -> str:
     """Renames a file to one with `.old` at its end, or `.old2` and so on if there are such files; the new name."""
-    number, kept = 1, path + ".old"
-    while os.path.lexists(kept):
-        number += 1
-        kept = f"{path}.old{number}"
+    kept = free_name(f"{path}.old")
     os.rename(path, kept)
     return kept
+
+
+def free_name(path: str) -> str:
+    """The path, or the first with a number from 2 on at its end, that no file has."""
+    names = (f"{path}{number if number > 1 else ''}" for number in itertools.count(1))
+    return next(name for name in names if not os.path.lexists(name))
 
 
 def be_as(descriptor: int, place: str) -> None:

@@ -4,7 +4,7 @@ A function becomes a function, a value a variable, a block a label. All memory i
 as in the text, and numbers of 128 bits are pairs. What has a form that is not known here is refused, as retarget.py does.
 """
 import re
-from typing import Callable, Dict, List, Optional, TextIO, Tuple
+from typing import Dict, List, NoReturn, Optional, TextIO, Tuple
 
 from retarget import POINTING, Unknown, VALUE
 
@@ -12,8 +12,29 @@ NAME = r'[%@](?:"[^"]*"|[\w.$+-]+)'
 TYPE = r"(?:ptr|i\d+|void|\{[^{}]*\}|\[\d+ x i\d+\])"
 MARKS = r"(?:noundef|zeroext|signext|nonnull|noalias|readonly|writeonly|nocapture|returned|align \d+|dereferenceable\(\d+\)|captures\(\w+\))"
 FLAGS = r"(?:nuw |nsw |exact |disjoint |nneg |inbounds |nusw |samesign )*"
-OPERATORS = {"add": "+", "sub": "-", "mul": "*", "udiv": "/", "urem": "%", "and": "&", "or": "|", "xor": "^", "shl": "<<", "lshr": ">>",
-             "sdiv": "/", "srem": "%", "ashr": ">>"}
+OPERATORS = {"add": "+", "sub": "-", "mul": "*", "udiv": "/", "urem": "%", "and": "&", "or": "|", "xor": "^", "shl": "<<", "lshr": ">>", "sdiv": "/", "srem": "%", "ashr": ">>"}
+GROUPS = {**dict.fromkeys(OPERATORS, "binary"), **dict.fromkeys(("zext", "sext", "trunc"), "widen"), **dict.fromkeys(("ptrtoint", "ptrtoaddr", "inttoptr"), "pointer")}
+# What follows the name of an instruction, or of its group; Body has a function for each, which gets the parts in brackets.
+FORMS = {
+    "phi": rf"({TYPE}).*",
+    "alloca": rf"({TYPE}), align \d+",
+    "load": rf"({TYPE}), ptr ({NAME})(?:, align \d+)?",
+    "store": rf"({TYPE}) (.*), ptr ({NAME})(?:, align \d+)?",
+    "icmp": rf"{FLAGS}([us]?)(eq|ne|gt|ge|lt|le) ({TYPE}) ([^,]+), ([^,]+)",
+    "binary": rf"{FLAGS}({TYPE}) ([^,]+), ([^,]+)",
+    "widen": rf"{FLAGS}({TYPE}) ([^,]+) to ({TYPE})",
+    "pointer": r"(?:ptr|i64) (\S+) to (?:ptr|i64)",
+    "getelementptr": rf"{FLAGS}i8, ptr ({NAME}), i64 (\S+)",
+    "extractvalue": rf"({TYPE}) ({NAME}), (\d)",
+    "insertvalue": rf"(\{{[^{{}}]*\}}) (\S+), ({TYPE}) (\S+), (\d)",
+    "select": rf"i1 ([^,]+), ({TYPE}) ([^,]+), {TYPE} ([^,]+)",
+    "freeze": r"(\S+) (.*)",
+    "call": rf"(?:{MARKS} )*({TYPE}) (@(?:\"[^\"]*\"|[\w.$+-]+))\((.*)\)(?: #\d+)?",
+    "br": r"(?:i1 ([^,]+), label %([^,]+), )?label %(\S+)",
+    "switch": rf"({TYPE}) ([^,]+), label %(\S+) \[(.*)\]",
+    "ret": r"void|(.*) (\S+)",
+    "unreachable": "",
+}
 COMPARED = {"eq": "==", "ne": "!=", "gt": ">", "ge": ">=", "lt": "<", "le": "<="}
 # The start of the file. Pairs are numbers of 128 bits, of which the text only adds, subtracts and multiplies those that fitted into 64 bits.
 HEAD = r"""/* The Forth-83 machine as one file of C99. It was written by a program from the library's lowered text; include/forth83.h has its calls.
@@ -120,6 +141,7 @@ class Body:
     def __init__(self, names: Names) -> None:
         self.names, self.variables, self.statements = names, [], []  # type: Names, List[str], List[str]
         self.block, self.copies = "start", {}  # type: str, Dict[Tuple[str, str], List[Tuple[str, str, str]]]
+        self.line = ""  # the one that is read
 
     def read(self, lines: List[str]) -> None:
         """All lines: first what comes into each block, then what is done."""
@@ -135,6 +157,7 @@ class Body:
             self.read_line(re.sub(r"(?:, ![\w.]+ !\d+)+$", "", line.strip()))
 
     def read_line(self, line: str) -> None:
+        self.line = line
         if not line or line.startswith(";"):
             return
         if found := re.match(r'([\w.$-]+|"[^"]*"):', line):
@@ -142,9 +165,15 @@ class Body:
             self.statements.append(f"{self.label(found[1])}:;")
             return
         found = re.fullmatch(rf"(?:({NAME}) = )?(?:tail |musttail |notail )?(\w+) ?(.*)", line)
-        does: Optional[Callable[[str, str, str], bool]] = getattr(self, f"do_{GROUPS.get(found[2], found[2])}", None) if found else None
-        if not found or not does or not does(found[1] or "", found[2], found[3]):
-            raise Unknown(f"the line {line}")
+        group = GROUPS.get(found[2], found[2]) if found else ""
+        parts = re.fullmatch(FORMS[group], found[3]) if found and group in FORMS else None
+        if not found or not parts:
+            self.refuse()
+        getattr(self, f"do_{group}")(found[1] or "", found[2], *parts.groups())
+
+    def refuse(self) -> NoReturn:
+        """The line has a form that is not known."""
+        raise Unknown(f"the line {self.line}")
 
     @staticmethod
     def label(name: str) -> str:
@@ -156,26 +185,21 @@ class Body:
         taken = "".join(f"{self.names.kind(kind)} t_{to} = {self.names.value(value, kind)}; " for kind, to, value in copies)
         return f"{{ {taken}{''.join(f'{to} = t_{to}; ' for _, to, _ in copies)}goto {self.label(target)}; }}"
 
-    def put(self, to: str, kind: str, value: str) -> bool:
+    def put(self, to: str, kind: str, value: str) -> None:
         """A variable that gets this value; one of one bit has 0 or 1."""
         self.variables.append(f"{self.names.kind(kind)} {self.names.name(to)};")
         self.statements.append(f"{self.names.name(to)} = {f'({value}) & 1' if kind == 'i1' else value};")
-        return True
 
     def signed(self, value: str, kind: str) -> str:
         """A value as one with a sign."""
         return f"(-(int){self.names.value(value, kind)})" if kind == "i1" else f"(int{kind[1:]}_t){self.names.value(value, kind)}"
 
-    def do_phi(self, to: str, _word: str, rest: str) -> bool:
-        self.variables.append(f"{self.names.kind(re.match(TYPE, rest)[0])} {self.names.name(to)};")  # type: ignore
-        return True
+    def do_phi(self, to: str, _word: str, kind: str) -> None:
+        self.variables.append(f"{self.names.kind(kind)} {self.names.name(to)};")
 
-    def do_alloca(self, to: str, _word: str, rest: str) -> bool:
-        found = re.fullmatch(rf"({TYPE}), align \d+", rest)
-        if found:
-            self.variables.append(f"uint64_t m_{self.names.name(to)}[{size_of(found[1]) // 8 + 1}]; char *{self.names.name(to)};")
-            self.statements.append(f"{self.names.name(to)} = (char *)m_{self.names.name(to)};")
-        return bool(found)
+    def do_alloca(self, to: str, _word: str, kind: str) -> None:
+        self.variables.append(f"uint64_t m_{self.names.name(to)}[{size_of(kind) // 8 + 1}]; char *{self.names.name(to)};")
+        self.statements.append(f"{self.names.name(to)} = (char *)m_{self.names.name(to)};")
 
     def moved(self, kind: str, variable: str, at: str, is_load: bool) -> None:
         """Loads or stores a variable; pointers have 8 bytes in memory, and the parts of a structure are moved one by one."""
@@ -183,140 +207,102 @@ class Body:
             for number, (part, place) in enumerate(zip(split(kind[1:-1]), places(kind))):
                 self.moved(part, f"{variable}.m{number}", f"{at} + {place}", is_load)
         elif kind == "ptr":
-            self.statements.append(f"{{ uint64_t t; memcpy(&t, {at}, 8); {variable} = (char *)(uintptr_t)t; }}" if is_load else
-                                   f"{{ uint64_t t = (uintptr_t)({variable}); memcpy({at}, &t, 8); }}")
+            self.statements.append(
+                f"{{ uint64_t t; memcpy(&t, {at}, 8); {variable} = (char *)(uintptr_t)t; }}" if is_load else f"{{ uint64_t t = (uintptr_t)({variable}); memcpy({at}, &t, 8); }}"
+            )
         else:
             self.statements.append(f"memcpy(&{variable}, {at}, {size_of(kind)});" if is_load else f"memcpy({at}, &{variable}, {size_of(kind)});")
 
-    def do_load(self, to: str, _word: str, rest: str) -> bool:
-        found = re.fullmatch(rf"({TYPE}), ptr ({NAME})(?:, align \d+)?", rest)
-        if found:
-            self.variables.append(f"{self.names.kind(found[1])} {self.names.name(to)};")
-            self.moved(found[1], self.names.name(to), self.names.value(found[2], "ptr"), True)
-        return bool(found)
+    def do_load(self, to: str, _word: str, kind: str, place: str) -> None:
+        self.variables.append(f"{self.names.kind(kind)} {self.names.name(to)};")
+        self.moved(kind, self.names.name(to), self.names.value(place, "ptr"), True)
 
-    def do_store(self, _to: str, _word: str, rest: str) -> bool:
-        found = re.fullmatch(rf"({TYPE}) (.*), ptr ({NAME})(?:, align \d+)?", rest)
-        if found:
-            self.statements.append(f"{{ {self.names.kind(found[1])} s = {self.names.value(found[2], found[1])};")
-            self.moved(found[1], "s", self.names.value(found[3], "ptr"), False)
-            self.statements.append("}")
-        return bool(found)
+    def do_store(self, _to: str, _word: str, kind: str, value: str, place: str) -> None:
+        self.statements.append(f"{{ {self.names.kind(kind)} s = {self.names.value(value, kind)};")
+        self.moved(kind, "s", self.names.value(place, "ptr"), False)
+        self.statements.append("}")
 
-    def do_icmp(self, to: str, _word: str, rest: str) -> bool:
-        found = re.fullmatch(rf"{FLAGS}([us]?)(eq|ne|gt|ge|lt|le) ({TYPE}) ([^,]+), ([^,]+)", rest)
-        if not found:
-            return False
-        sign, how, kind, *both = found.groups()
+    def do_icmp(self, to: str, _word: str, sign: str, how: str, kind: str, *both: str) -> None:
         if kind == "i128":
             one, other = (self.names.value(it, kind) for it in both)
+            if how not in ("eq", "ne") or not all(it[0] == "%" for it in both):
+                self.refuse()
             equal = f"({one}.low == {other}.low && {one}.high == {other}.high)"
-            return how in ("eq", "ne") and all(it[0] == "%" for it in both) and self.put(to, "i1", equal if how == "eq" else f"!{equal}")
-        one, other = (self.signed(it, kind) if sign == "s" else self.names.value(it, kind) for it in both)
-        return self.put(to, "i1", f"{one} {COMPARED[how]} {other}")
+            self.put(to, "i1", equal if how == "eq" else f"!{equal}")
+        else:
+            one, other = (self.signed(it, kind) if sign == "s" else self.names.value(it, kind) for it in both)
+            self.put(to, "i1", f"{one} {COMPARED[how]} {other}")
 
-    def do_binary(self, to: str, word: str, rest: str) -> bool:
-        found = re.fullmatch(rf"{FLAGS}({TYPE}) ([^,]+), ([^,]+)", rest)
-        if not found:
-            return False
-        kind, *both = found.groups()
+    def do_binary(self, to: str, word: str, kind: str, *both: str) -> None:
         one, other = (self.signed(it, kind) if word in ("sdiv", "srem", "ashr") else self.names.value(it, kind) for it in both)
-        if kind == "i128":
-            return word in ("add", "sub", "mul") and self.put(to, kind, f"wide_{word}({one}, {other})")
-        if "div" in word and both[1] == "0":  # a run-time check that fails
-            return self.put(to, kind, f"(abort(), {one})")
         promoted = f"(uint64_t){one}" if word in ("mul", "shl") else one  # a product of numbers of 16 bits does not fit into an int
-        return self.put(to, kind, f"({self.names.kind(kind)})({promoted} {OPERATORS[word]} {other})")
+        if kind != "i128":
+            fails = "div" in word and both[1] == "0"  # a run-time check
+            self.put(to, kind, f"(abort(), {one})" if fails else f"({self.names.kind(kind)})({promoted} {OPERATORS[word]} {other})")
+        elif word in ("add", "sub", "mul"):
+            self.put(to, kind, f"wide_{word}({one}, {other})")
+        else:
+            self.refuse()
 
-    def do_widen(self, to: str, word: str, rest: str) -> bool:
-        found = re.fullmatch(rf"{FLAGS}({TYPE}) ([^,]+) to ({TYPE})", rest)
-        if not found:
-            return False
-        kind, value, wanted = found.groups()
+    def do_widen(self, to: str, word: str, kind: str, value: str, wanted: str) -> None:
         given = self.signed(value, kind) if word == "sext" else self.names.value(value, kind)
         if wanted == "i128":
-            return self.put(to, wanted, f"wide_of((uint64_t){given}, {f'{given} < 0 ? UINT64_MAX : 0' if word == 'sext' else '0'})")
-        return self.put(to, wanted, f"({self.names.kind(wanted)}){given}{'.low' if kind == 'i128' else ''}")
+            self.put(to, wanted, f"wide_of((uint64_t){given}, {f'{given} < 0 ? UINT64_MAX : 0' if word == 'sext' else '0'})")
+        else:
+            self.put(to, wanted, f"({self.names.kind(wanted)}){given}{'.low' if kind == 'i128' else ''}")
 
-    def do_pointer(self, to: str, word: str, rest: str) -> bool:
-        found = re.fullmatch(r"(?:ptr|i64) (\S+) to (?:ptr|i64)", rest)
-        if not found:
-            return False
+    def do_pointer(self, to: str, word: str, value: str) -> None:
         if word == "inttoptr":
-            return self.put(to, "ptr", f"(char *)(uintptr_t){self.names.value(found[1], 'i64')}")
-        return self.put(to, "i64", f"(uintptr_t){self.names.value(found[1], 'ptr')}")
+            self.put(to, "ptr", f"(char *)(uintptr_t){self.names.value(value, 'i64')}")
+        else:
+            self.put(to, "i64", f"(uintptr_t){self.names.value(value, 'ptr')}")
 
-    def do_getelementptr(self, to: str, _word: str, rest: str) -> bool:
-        found = re.fullmatch(rf"{FLAGS}i8, ptr ({NAME}), i64 (\S+)", rest)
-        return bool(found) and self.put(to, "ptr", f"{self.names.value(found[1], 'ptr')} + (ptrdiff_t)(int64_t){self.names.value(found[2], 'i64')}")  # type: ignore
+    def do_getelementptr(self, to: str, _word: str, begins: str, number: str) -> None:
+        self.put(to, "ptr", f"{self.names.value(begins, 'ptr')} + (ptrdiff_t)(int64_t){self.names.value(number, 'i64')}")
 
-    def do_extractvalue(self, to: str, _word: str, rest: str) -> bool:
-        found = re.fullmatch(rf"({TYPE}) ({NAME}), (\d)", rest)
-        return bool(found) and self.put(to, split(found[1][1:-1])[int(found[3])], f"{self.names.name(found[2])}.m{found[3]}")  # type: ignore
+    def do_extractvalue(self, to: str, _word: str, kind: str, value: str, part: str) -> None:
+        self.put(to, split(kind[1:-1])[int(part)], f"{self.names.name(value)}.m{part}")
 
-    def do_insertvalue(self, to: str, _word: str, rest: str) -> bool:
-        found = re.fullmatch(rf"(\{{[^{{}}]*\}}) (\S+), ({TYPE}) (\S+), (\d)", rest)
-        if found:
-            self.put(to, found[1], self.names.value(found[2], found[1]))
-            self.statements.append(f"{self.names.name(to)}.m{found[5]} = {self.names.value(found[4], found[3])};")
-        return bool(found)
+    def do_insertvalue(self, to: str, _word: str, kind: str, value: str, kind_of_part: str, inserted: str, part: str) -> None:
+        self.put(to, kind, self.names.value(value, kind))
+        self.statements.append(f"{self.names.name(to)}.m{part} = {self.names.value(inserted, kind_of_part)};")
 
-    def do_select(self, to: str, _word: str, rest: str) -> bool:
-        found = re.fullmatch(rf"i1 ([^,]+), ({TYPE}) ([^,]+), {TYPE} ([^,]+)", rest)
-        if not found:
-            return False
-        one, other = (self.names.value(it, found[2]) for it in (found[3], found[4]))
-        return self.put(to, found[2], f"{self.names.value(found[1], 'i1')} ? {one} : {other}")
+    def do_select(self, to: str, _word: str, condition: str, kind: str, *both: str) -> None:
+        one, other = (self.names.value(it, kind) for it in both)
+        self.put(to, kind, f"{self.names.value(condition, 'i1')} ? {one} : {other}")
 
-    def do_freeze(self, to: str, _word: str, rest: str) -> bool:
-        kind, _, value = rest.partition(" ")
-        return self.put(to, kind, self.names.value(value, kind))
+    def do_freeze(self, to: str, _word: str, kind: str, value: str) -> None:
+        self.put(to, kind, self.names.value(value, kind))
 
-    def do_call(self, to: str, _word: str, rest: str) -> bool:
-        found = re.fullmatch(rf"(?:{MARKS} )*({TYPE}) (@(?:\"[^\"]*\"|[\w.$+-]+))\((.*)\)(?: #\d+)?", rest)
-        if not found:
-            return False
-        given = [re.fullmatch(rf"({TYPE}) (?:{MARKS} )*(.*)", it) for it in split(found[3])]
+    def do_call(self, to: str, _word: str, kind: str, name: str, words: str) -> None:
+        given = [re.fullmatch(rf"({TYPE}) (?:{MARKS} )*(.*)", it) for it in split(words)]
         values = [self.names.value(it[2], it[1]) for it in given if it]
-        known = re.match(r"@llvm\.(memset|memcpy|memmove|trap|cttz\.i64|ctlz\.i64)\b", found[2])
-        if len(values) != len(given) or found[2].startswith("@llvm.") and not known:
-            return False
+        known = re.match(r"@llvm\.(memset|memcpy|memmove|trap|cttz\.i64|ctlz\.i64)\b", name)
+        if len(values) != len(given) or name.startswith("@llvm.") and not known:
+            self.refuse()
         calls = {"trap": "abort()", "cttz.i64": f"count_zeros({values[0] if values else ''})", "ctlz.i64": f"count_first_zeros({values[0] if values else ''})"}
-        called = f"{self.names.name(found[2])}({', '.join(values)})"
+        called = f"{self.names.name(name)}({', '.join(values)})"
         if known:
             called = calls.get(known[1]) or f"{known[1]}({values[0]}, {values[1]}, (size_t){values[2]})"
         if to:
-            return self.put(to, found[1], called)
-        self.statements.append(f"{called};")
-        return True
+            self.put(to, kind, called)
+        else:
+            self.statements.append(f"{called};")
 
-    def do_br(self, _to: str, _word: str, rest: str) -> bool:
-        if found := re.fullmatch(r"label %(\S+)", rest):
-            self.statements.append(self.jump(found[1]))
-        elif found := re.fullmatch(r"i1 ([^,]+), label %([^,]+), label %(\S+)", rest):
-            self.statements.append(f"if ({self.names.value(found[1], 'i1')}) {self.jump(found[2])} else {self.jump(found[3])}")
-        return bool(found)
+    def do_br(self, _to: str, _word: str, condition: Optional[str], first: str, other: str) -> None:
+        chosen = f"if ({self.names.value(condition, 'i1')}) {self.jump(first)} else " if condition else ""
+        self.statements.append(chosen + self.jump(other))
 
-    def do_switch(self, _to: str, _word: str, rest: str) -> bool:
-        found = re.fullmatch(rf"({TYPE}) ([^,]+), label %(\S+) \[(.*)\]", rest)
-        if found:
-            cases = re.findall(r"i\d+ (\S+), label %(\S+)", found[4])
-            listed = " ".join(f"case {self.names.value(value, found[1])}: {self.jump(label)}" for value, label in cases)
-            self.statements.append(f"switch ({self.names.value(found[2], found[1])}) {{ {listed} default: {self.jump(found[3])} }}")
-        return bool(found)
+    def do_switch(self, _to: str, _word: str, kind: str, value: str, otherwise: str, rows: str) -> None:
+        cases = re.findall(r"i\d+ (\S+), label %(\S+)", rows)
+        listed = " ".join(f"case {self.names.value(number, kind)}: {self.jump(label)}" for number, label in cases)
+        self.statements.append(f"switch ({self.names.value(value, kind)}) {{ {listed} default: {self.jump(otherwise)} }}")
 
-    def do_ret(self, _to: str, _word: str, rest: str) -> bool:
-        kind, _, value = rest.rpartition(" ") if rest != "void" else ("", "", "")
+    def do_ret(self, _to: str, _word: str, kind: str, value: Optional[str]) -> None:
         self.statements.append(f"return {self.names.value(value, kind)};" if value else "return;")
-        return True
 
-    def do_unreachable(self, _to: str, _word: str, _rest: str) -> bool:
+    def do_unreachable(self, _to: str, _word: str) -> None:
         self.statements.append("abort();")
-        return True
-
-
-GROUPS = {**dict.fromkeys(OPERATORS, "binary"), **dict.fromkeys(("zext", "sext", "trunc"), "widen"),
-          **dict.fromkeys(("ptrtoint", "ptrtoaddr", "inttoptr"), "pointer")}
 
 
 def constant(names: Names, line: str) -> str:
@@ -347,7 +333,7 @@ def pointing(names: Names, line: str) -> Optional[Tuple[str, List[str], str]]:
             others.append(names.name(place[1] or place[3]))
             units.append(f"{{.at = (const char *){others[-1]}.bytes + {place[2] or 0}}}")
             continue
-        kind, _, text = item.partition(" c\"")
+        kind, _, text = item.partition(' c"')
         content = bytes_of(kind.replace(" zeroinitializer", ""), text[:-1])
         if len(content) % 8:
             raise Unknown(f"the line {line[:200]}")

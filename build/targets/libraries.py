@@ -8,7 +8,6 @@ import concurrent.futures
 import hashlib
 import os
 import pathlib
-import shutil
 import tempfile
 from typing import Dict, List, NamedTuple, Sequence
 
@@ -50,7 +49,7 @@ TARGETS: Dict[str, Target] = {
 
 def tool(name: str) -> str:
     """A tool of the Rattle toolchain."""
-    return str(lowering.folder_of_toolchain() / toolchain.TOOLS / name)
+    return str(toolchain.folder() / toolchain.TOOLS / name)
 
 
 def sum_of(name: str, text: str) -> str:
@@ -65,20 +64,13 @@ def compiled(room: pathlib.Path, name: str, is_proved: bool, takes_kept: bool = 
     if is_proved and TARGETS[name].is_own:
         return own(room, name)
     text, made = lowering.text_of_library(is_proved), room / f"{name}.o"
-    kept = lowering.KEPT / f"{name}-{'proved' if is_proved else 'unproved'}.o"
-    total = sum_of(name, text)
-    try:
-        if takes_kept and kept.with_suffix(".sum").read_text(encoding="ascii") == total + hashlib.sha256(kept.read_bytes()).hexdigest():
-            shutil.copyfile(kept, made)
-            return made
-    except OSError:
-        pass
-    compile_text(room, name, text, is_proved, made)
-    try:
-        shutil.copyfile(made, kept)
-        kept.with_suffix(".sum").write_text(total + hashlib.sha256(kept.read_bytes()).hexdigest(), encoding="ascii")
-    except OSError:
-        pass
+    kept, total = f"{name}-{'proved' if is_proved else 'unproved'}.o", sum_of(name, text)
+    content = lowering.kept_content(kept, total) if takes_kept else None
+    if content is None:
+        compile_text(room, name, text, is_proved, made)
+        lowering.keep(kept, made.read_bytes(), total)
+    else:
+        made.write_bytes(content)
     return made
 
 
@@ -88,8 +80,7 @@ def own(room: pathlib.Path, name: str) -> pathlib.Path:
     library, heap, text = room / f"{name}-library.a", room / f"{name}-heap.o", room / f"{name}-heap.ll"
     library.write_bytes(lowering.archive_for(target.triple))
     text.write_text(retarget.heap(64), encoding="utf-8")
-    called([tool("clang"), f"--target={target.triple}", *target.options, "-Wno-override-module", "-x", "ir", text.name, "-c", "-o", str(heap.resolve())],
-           cwd=room)
+    compile_ir(text, heap, f"--target={target.triple}", *target.options)
     called([tool("ld.lld"), "-r", "--whole-archive", str(library), str(heap), "-o", str(made)])
     return made
 
@@ -103,9 +94,12 @@ def compile_text(room: pathlib.Path, name: str, text: str, is_proved: bool, made
             retarget.retarget(text.splitlines(), out, lowering.layout_of(target.triple), target.triple, None if is_proved else lowering.PREFIX, machine)
     except retarget.Unknown as error:
         raise Refused(f"build/targets/retarget.py: {error}") from None
-    # The text's name is in what clang makes, so it is the same in every folder.
-    called([tool("clang"), f"--target={target.triple}", *target.options, "-ffunction-sections", "-fdata-sections", "-Wno-override-module",
-            "-x", "ir", other.name, "-c", "-o", str(made.resolve())], cwd=room)
+    compile_ir(other, made, f"--target={target.triple}", *target.options, "-ffunction-sections", "-fdata-sections")
+
+
+def compile_ir(text: pathlib.Path, made: pathlib.Path, *options: str) -> None:
+    """Compiles a text of LLVM. Its name is in what clang makes, so it is the same in every folder."""
+    called([tool("clang"), *options, "-Wno-override-module", "-x", "ir", text.name, "-c", "-o", str(made.resolve())], cwd=text.parent)
 
 
 def portable(made: pathlib.Path, is_proved: bool) -> None:
@@ -139,8 +133,21 @@ def web_linked(room: pathlib.Path, objects: List[pathlib.Path], exports: Sequenc
     if not linker.is_symlink():
         linker.symlink_to(tool("ld.lld"))
     called([tool("clang"), f"--target={TARGETS['wasm32'].triple}", "-O3", "-ffreestanding", "-c", str(HERE / "heap.c"), "-o", str(heap)])
-    called([str(linker), "--no-entry", "--gc-sections", "--strip-all", "-z", f"stack-size={STACK}", *(f"--export={it}" for it in exports),
-            *map(str, objects), str(heap), "-o", str(module)])
+    called(
+        [
+            str(linker),
+            "--no-entry",
+            "--gc-sections",
+            "--strip-all",
+            "-z",
+            f"stack-size={STACK}",
+            *(f"--export={it}" for it in exports),
+            *map(str, objects),
+            str(heap),
+            "-o",
+            str(module),
+        ]
+    )
     return module
 
 
@@ -151,7 +158,7 @@ def web_module(room: pathlib.Path, library: pathlib.Path, calls: Sequence[str] =
 
 def native(room: pathlib.Path, is_proved: bool) -> pathlib.Path:
     """The library of this computer with nothing rewritten: the archive that `rt lib` makes, or the module without proofs as it is."""
-    plain, made, runtime = room / "native.a", room / "libnative.a", lowering.folder_of_toolchain() / toolchain.RUNTIME
+    plain, made, runtime = room / "native.a", room / "libnative.a", toolchain.folder() / toolchain.RUNTIME
     if is_proved:
         plain.write_bytes(lowering.archive_of_toolchain())
     else:
@@ -160,7 +167,7 @@ def native(room: pathlib.Path, is_proved: bool) -> pathlib.Path:
             for line in retarget.without_main(lowering.text_of_library(False).splitlines(), lowering.PREFIX):
                 line = retarget.rename(line, lowering.PREFIX)
                 out.write((retarget.attributes_for(line) if line.startswith("attributes") else line) + "\n")
-        called([tool("clang"), "-Wno-override-module", "-fPIC", "-O2", "-x", "ir", text.name, "-c", "-o", "native.o"], cwd=room)
+        compile_ir(text, room / "native.o", "-fPIC", "-O2")
         plain.unlink(missing_ok=True)
         called([tool("llvm-ar"), "rcsD", str(plain), str(room / "native.o")])
     made.unlink(missing_ok=True)

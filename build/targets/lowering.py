@@ -13,7 +13,7 @@ import signal
 import subprocess
 import sys
 import tempfile
-from typing import Dict, List, Optional
+from typing import Any, Dict, List, Optional
 
 import records
 
@@ -21,6 +21,7 @@ ROOT = pathlib.Path(__file__).resolve().parents[2]
 sys.path.insert(0, str(ROOT / "build"))
 
 import toolchain  # noqa: E402
+from toolchain import last_line, Unknown as Refused  # noqa: E402
 
 HERE = ROOT / "build/targets"
 KEPT = ROOT / "build/out/targets"
@@ -39,10 +40,6 @@ case " $* " in
 esac
 exec "{clang}" "$@"
 """
-
-
-class Refused(Exception):
-    """Why nothing was made."""
 
 
 def end_tidily() -> None:
@@ -94,35 +91,22 @@ def called(words: List[str], **how: object) -> str:
     except OSError as error:
         raise Refused(f"{words[0]} can't be started ({error.strerror})") from None
     if done.returncode:
-        last = (done.stderr.strip() or done.stdout.strip()).split("\n")[-1]
-        raise Refused(f"{pathlib.Path(words[0]).name} failed: {last}")
+        raise Refused(f"{pathlib.Path(words[0]).name} failed: {last_line(done.stderr.strip() or done.stdout)}")
     return done.stdout
 
 
 def linked_rt(room: pathlib.Path, then: str) -> pathlib.Path:
     """The `rt` of links to the toolchain whose clang keeps the module as ROOM/module.bc."""
-    try:
-        rt = toolchain.linked(room)
-        toolchain.replaced(room, toolchain.CLANG, KEEPER.format(kept=room / "module.bc", clang=toolchain.folder() / toolchain.CLANG, then=then))
-    except toolchain.Unknown as error:
-        raise Refused(str(error)) from None
+    rt = toolchain.linked(room)
+    toolchain.replaced(room, toolchain.CLANG, KEEPER.format(kept=room / "module.bc", clang=toolchain.folder() / toolchain.CLANG, then=then))
     return rt
-
-
-def folder_of_toolchain() -> pathlib.Path:
-    """The folder of the Rattle toolchain."""
-    try:
-        return toolchain.folder()
-    except toolchain.Unknown as error:
-        raise Refused(str(error)) from None
 
 
 def kept_module(room: pathlib.Path, said: str) -> pathlib.Path:
     """The LLVM module that the stand-in kept."""
     module = room / "module.bc"
     if not module.is_file():
-        last = said.strip().split("\n")[-1] if said.strip() else "nothing was said"
-        raise Refused(f"rt gave its clang no module: {last}")
+        raise Refused(f"rt gave its clang no module: {last_line(said)}")
     return module
 
 
@@ -146,19 +130,22 @@ def lower_unproved(room: pathlib.Path) -> pathlib.Path:
     copy_sources(room / "tree")
     (room / "tried").mkdir()
     how = {**os.environ, "TMPDIR": str(room / "tried")}
-    done = subprocess.run([str(rt), "try"], cwd=room / "tree/crates/forth83_c", env=how, stdin=subprocess.DEVNULL,
-                          capture_output=True, text=True, errors="replace", check=False)
+    done = subprocess.run([str(rt), "try"], cwd=room / "tree/crates/forth83_c", env=how, stdin=subprocess.DEVNULL, capture_output=True, text=True, errors="replace", check=False)
     return kept_module(room, done.stderr)
 
 
 def lower_proved(room: pathlib.Path) -> pathlib.Path:
     """The LLVM module of the library, which is proved first where it isn't."""
-    rt = linked_rt(room, ":")
-    done = subprocess.run([str(rt), "lib"], cwd=ROOT / "crates/forth83_c", stdin=subprocess.DEVNULL,
-                          stdout=subprocess.PIPE, stderr=subprocess.STDOUT, text=True, errors="replace", check=False)
+    return kept_module(room, proved_by([str(linked_rt(room, ":")), "lib"], ""))
+
+
+def proved_by(words: List[str], where: str) -> str:
+    """Has `rt lib` prove and build the library; what it says."""
+    how: Dict[str, Any] = {"stdin": subprocess.DEVNULL, "stdout": subprocess.PIPE, "stderr": subprocess.STDOUT, "text": True, "errors": "replace"}
+    done = subprocess.run(words, cwd=ROOT / "crates/forth83_c", check=False, **how)
     if done.returncode:
-        raise Refused(f"the library could not be proved and built; {kept_log(done.stdout)}")
-    return kept_module(room, done.stdout)
+        raise Refused(f"the library could not be proved and built{where}; {kept_log(done.stdout)}")
+    return str(done.stdout)
 
 
 def kept_log(said: str) -> str:
@@ -168,24 +155,24 @@ def kept_log(said: str) -> str:
         KEPT.mkdir(parents=True, exist_ok=True)
         log.write_text(said, encoding="utf-8")
     except OSError:
-        return said.strip().split("\n")[-1]
+        return last_line(said)
     return f"all that was said: {log}"
 
 
-def kept_content(name: str) -> Optional[bytes]:
-    """What was made of the same sources before, and kept under this name."""
+def kept_content(name: str, total: str = "") -> Optional[bytes]:
+    """What was made before of all that has this sum, or of the same sources, and kept under this name."""
     file = KEPT / name
     try:
         content = file.read_bytes()
         said = file.with_name(f"{name}.sum").read_text(encoding="ascii")
-        return content if said == f"{sum_of_sources()} {hashlib.sha256(content).hexdigest()}\n" else None
+        return content if said == f"{total or sum_of_sources()} {hashlib.sha256(content).hexdigest()}\n" else None
     except OSError:
         return None
 
 
-def keep(name: str, content: bytes) -> None:
+def keep(name: str, content: bytes, total: str = "") -> None:
     """Keeps what was made for the next library, where the folder can be written."""
-    said = f"{sum_of_sources()} {hashlib.sha256(content).hexdigest()}\n"
+    said = f"{total or sum_of_sources()} {hashlib.sha256(content).hexdigest()}\n"
     try:
         KEPT.mkdir(parents=True, exist_ok=True)
         for file, part in ((KEPT / name, content), (KEPT / f"{name}.sum", said.encode())):
@@ -202,13 +189,13 @@ def text_of_library(is_proved: bool) -> str:
     found = kept_content(name)
     if found is not None:
         return found.decode()
-    say("proving the machine's library; from nothing this takes as long as ./forth --proved" if is_proved else
-        "lowering the machine's library without proofs, about half a minute")
+    say("proving the machine's library; from nothing this takes as long as ./forth --proved" if is_proved else "lowering the machine's library without proofs, about half a minute")
     with tempfile.TemporaryDirectory(prefix="forth83-lowering-") as folder:
         room = pathlib.Path(folder)
         module = lower_proved(room) if is_proved else lower_unproved(room)
-        text = called([str(folder_of_toolchain() / toolchain.CLANG), "-Wno-override-module", "-x", "ir", str(module), "-S", "-emit-llvm", "-O0",
-                       "-Xclang", "-disable-llvm-passes", "-o", "-"])
+        text = called(
+            [str(toolchain.folder() / toolchain.CLANG), "-Wno-override-module", "-x", "ir", str(module), "-S", "-emit-llvm", "-O0", "-Xclang", "-disable-llvm-passes", "-o", "-"]
+        )
     # The first line names a temporary file.
     text = re.sub(r"\A; ModuleID = .*\n", "", text)
     if is_proved:
@@ -238,10 +225,7 @@ def archive_for(triple: str) -> bytes:
     native = archive_of_toolchain()
     say(f"proving the machine's library for {triple}, about half a minute once its crates are proved")
     try:
-        done = subprocess.run(["rt", "lib", "--target", triple], cwd=ROOT / "crates/forth83_c", stdin=subprocess.DEVNULL,
-                              stdout=subprocess.PIPE, stderr=subprocess.STDOUT, text=True, errors="replace", check=False)
-        if done.returncode:
-            raise Refused(f"the library could not be proved and built for {triple}; {kept_log(done.stdout)}")
+        proved_by(["rt", "lib", "--target", triple], f" for {triple}")
         made = built_archive().read_bytes()
     finally:
         built_archive().parent.mkdir(exist_ok=True)
@@ -252,7 +236,7 @@ def archive_for(triple: str) -> bytes:
 
 def layout_of(triple: str) -> str:
     """The data layout that the toolchain's clang has for a target."""
-    text = called([str(folder_of_toolchain() / toolchain.CLANG), f"--target={triple}", "-S", "-emit-llvm", "-x", "c", "/dev/null", "-o", "-"])
+    text = called([str(toolchain.folder() / toolchain.CLANG), f"--target={triple}", "-S", "-emit-llvm", "-x", "c", "/dev/null", "-o", "-"])
     found = re.search(r'target datalayout = "(.*)"', text)
     if not found:
         raise Refused(f"clang says no data layout for {triple}")

@@ -87,8 +87,16 @@ def array_of(value: str, count: int) -> str:
 def main_that_calls_all(library: pathlib.Path = LIBRARY) -> str:
     """A function `main` that reaches each call of the library. It is never run: what it reaches is lowered."""
     known, needs = records(library), {"Global": "alloc", "&[u8]": 'b""', "&mut [u8]": "&mut bytes", "&mut [u16]": "&mut cells"}
-    lines = ["let alloc = rt.alloc();", "let mut bytes = [0u8; 8];", "let mut cells = [0u16; 8];", "let mut size = 0usize;",
-             "let mut word = 0u16;", "let mut other_bytes = [0u8; 8];", "let mut other_word = 0u16;", "let mut other_size = 0usize;"]
+    lines = [
+        "let alloc = rt.alloc();",
+        "let mut bytes = [0u8; 8];",
+        "let mut cells = [0u16; 8];",
+        "let mut size = 0usize;",
+        "let mut word = 0u16;",
+        "let mut other_bytes = [0u8; 8];",
+        "let mut other_word = 0u16;",
+        "let mut other_size = 0usize;",
+    ]
     needs.update({"u8": "0", "u16": "0", "u32": "0", "u64": "0", "usize": "0", "&mut u16": "&mut word", "&mut usize": "&mut size"})
     for name in ("Forth83", "Forth83End"):
         lines.append(f"let mut {name.lower()} = {zero(name, known)};")

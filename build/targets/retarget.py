@@ -1,7 +1,4 @@
-#!/usr/bin/env python3
-"""Rewrites the LLVM text of the machine's library for another target:
-
-    retarget.py MODULE.ll --layout LAYOUT --triple TRIPLE [--exports PREFIX] > OTHER.ll
+"""Rewrites the LLVM text of the machine's library for another target.
 
 The Rattle toolchain lowers the library to LLVM text for 64-bit x86. Records are read and written byte by byte there, and only
 pointers depend on the processor. For another target of 64 bits, the triple, the layout and the attributes change. On a target of
@@ -10,12 +7,10 @@ listed below; any other line is refused, since a form that a later toolchain wri
 a target whose layout isn't known to fit: the library's bytes are little-endian, and numbers of 64 bits are aligned to 8 bytes.
 
 The heap's three calls become calls of C's malloc, realloc and free, because C returns a pair of numbers in other ways on other
-processors. With `--exports` the functions whose name is PREFIX and `forth83_..` get that name without PREFIX, and the program's own
+processors. If a PREFIX is given, the functions whose name is PREFIX and `forth83_..` get that name without PREFIX, and the program's own
 `main` is left out: so a program without proofs, which calls each function of the library once, serves as the library.
 """
-import argparse
 import re
-import sys
 from typing import Iterable, Iterator, List, Optional, Sequence, TextIO, Union
 
 NAME = r'[%@](?:"[^"]*"|[\w.$+-]+)'
@@ -45,11 +40,11 @@ POINTERS = [
 ]
 # A constant that has addresses of constants among its bytes: its beginning, its types, its values, and its end.
 VALUE = rf'(?:\[\d+ x i8\] (?:zeroinitializer|c"[^"]*")|ptr (?:getelementptr \(i8, ptr {NAME}, i64 \d+\)|{NAME}))'
-POINTING = re.compile(rf"({NAME} = (?:private |internal )?(?:unnamed_addr )?constant) <\{{ ((?:(?:\[\d+ x i8\]|ptr)(?:, )?)+) \}}> "
-                      rf"<\{{ ({VALUE}(?:, {VALUE})*) \}}>(, align \d+)")
+POINTING = re.compile(rf"({NAME} = (?:private |internal )?(?:unnamed_addr )?constant) <\{{ ((?:(?:\[\d+ x i8\]|ptr)(?:, )?)+) \}}> <\{{ ({VALUE}(?:, {VALUE})*) \}}>(, align \d+)")
 CALL = re.compile(rf" *(?:{NAME} = )?(?:tail |musttail |notail )?call (?:noundef |zeroext |signext )*[^@]*(@(?:\"[^\"]*\"|[\w.$+-]+))\(.*")
-INTRINSIC = re.compile(r"@llvm\.(?:mem(?:set\.p0|cpy\.p0\.p0|move\.p0\.p0)\.i64|trap|[su](?:add|sub|mul)\.with\.overflow\.i\d+"
-                       r"|(?:ctpop|ctlz|cttz|umin|umax|smin|smax|abs|bswap|fshl|fshr)\.i\d+)")
+INTRINSIC = re.compile(
+    r"@llvm\.(?:mem(?:set\.p0|cpy\.p0\.p0|move\.p0\.p0)\.i64|trap|[su](?:add|sub|mul)\.with\.overflow\.i\d+|(?:ctpop|ctlz|cttz|umin|umax|smin|smax|abs|bswap|fshl|fshr)\.i\d+)"
+)
 OUTSIDE = [
     re.compile(r"(?:;.*|\}|source_filename = .*|!.*|)"),
     re.compile(rf"{NAME} = (?:private |internal )?(?:unnamed_addr )?constant {PLAIN} .*"),
@@ -245,23 +240,3 @@ def retarget(source: Iterable[str], target: TextIO, layout: str, triple: str, pr
     for line in rewritten(lines, layout, triple, fast):
         target.write(line + "\n")
     target.write(heap(width_of(layout)))
-
-
-def main() -> int:
-    words = argparse.ArgumentParser(description="Rewrites the LLVM text of the machine's library for another target.")
-    words.add_argument("module", help="the LLVM text, as the Rattle toolchain lowers it for x86-64")
-    words.add_argument("--layout", required=True, help="the target's data layout, as its clang writes it")
-    words.add_argument("--triple", required=True)
-    words.add_argument("--exports", metavar="PREFIX", help="export the functions PREFIXforth83_.., and leave main out")
-    asked = words.parse_args()
-    try:
-        with open(asked.module, encoding="utf-8") as source:
-            retarget(source, sys.stdout, asked.layout, asked.triple, asked.exports)
-    except Unknown as error:
-        print(f"retarget.py: {asked.module}: {error}", file=sys.stderr)
-        return 1
-    return 0
-
-
-if __name__ == "__main__":
-    sys.exit(main())

@@ -13,6 +13,7 @@ SCRIPTS = {
     "film": "teaching/film", "map": "teaching/map", "print": "teaching/print", "class": "teaching/class", "picture": "teaching/picture",
     "blocks": "commands/blocks", "capitals": "commands/capitals", "import": "commands/bring", "export": "commands/bring",
 }  # fmt: skip
+BY_PROGRAM = "blocks", "capitals", "import", "export"  # scripts that call subcommands of the program
 HELP = {"-h", "--help"}
 DEVICE = {"--on": 1, "--speed": 1}
 ABOUT_PROGRAMS = "--proved", "--unproved"
@@ -73,7 +74,7 @@ def make_page(words: list[str]) -> int:
     """Makes the page: looks at the words first, since the program may have to be built."""
     import subprocess
 
-    if not words:
+    if not words or HELP & set(own(words)):
         become("page/make", "--program", "-", "--help")
     maker = [sys.executable, "-B", os.path.join(ROOT, "page", "make"), "--program"]
     looked = subprocess.call([*maker, "-", "--look", *words])
@@ -91,7 +92,7 @@ def go_through_course(words: list[str]) -> int:
     if first in course.KINDS:
         if len(rest) != 2:
             raise Misused(f"course {first} needs the number of a lesson")
-        sys.stdout.write(course.lesson(first[2:], rest[1]))
+        sys.stdout.write(course.lesson(first, rest[1]))
         return 0
     if first == "--text":
         if len(rest) > 1:
@@ -158,10 +159,13 @@ def do_command(command: str, words: list[str]) -> int:
     if HELP & set(own(words)) and command in ("course", "where", "test", "bridge"):
         sys.stdout.write(usage(command))
         return 0
-    if command == "page" and HELP & set(own(words)):
-        become("page/make", "--program", "-", "--help")
     if command in OWN:
         return OWN[command](words)
+    if command in BY_PROGRAM:
+        from subcommands import PROGRAM  # a session does not need it
+
+        option, words = take_program(words)
+        os.environ.update({PROGRAM: program_of(option)} if option else {})
     become(SCRIPTS[command], *[command] * (command in ("import", "export")), *words)
 
 

@@ -2,40 +2,38 @@
 from __future__ import annotations
 
 import os
-import re
 import shutil
-import subprocess
 import tempfile
 
+import course_lessons
 from launcher.program import Refused, ROOT
+from served import image
 
 FOLDER = os.path.join(ROOT, "screens", "course")
 SCREENS = os.path.join(FOLDER, "course.txt")
 START = os.path.join(FOLDER, "course.fs")
-KINDS = "--hints", "--solutions"
-FIRST = 20  # the screen of lesson n is so many further
+KINDS = {"--hints": "hints", "--solutions": "solution"}
 
 
 def make(program: str, blocks: str) -> None:
     """Makes the course's file of blocks."""
     with tempfile.TemporaryDirectory() as room:
         made = os.path.join(room, "course.blk")
-        for words in ([program, "new", made, "64"], [program, "screens", SCREENS, made]):
-            done = subprocess.run(words, stdin=subprocess.DEVNULL, stdout=subprocess.PIPE, stderr=subprocess.STDOUT, check=False)
-            if done.returncode:
-                raise Refused(f"cannot make {blocks}: {done.stdout.decode(errors='replace').strip()}")
         try:
+            image.run(program, "new", made, "64")
+            image.run(program, "screens", SCREENS, made)
             shutil.copyfile(made, blocks)
-        except OSError as error:
-            raise Refused(f"cannot make {blocks}: {error.strerror}") from error
+        except (image.NotMade, OSError) as error:
+            raise Refused(f"cannot make {blocks}: {error.strerror if isinstance(error, OSError) else error}") from error
 
 
 def lesson(kind: str, number: str) -> str:
     """The hints or the solutions of a lesson."""
-    with open(os.path.join(FOLDER, f"{kind}.txt"), encoding="utf-8") as file:
-        parts = re.split(r"(?m)^% (lesson|screen) (\d+)\n", file.read())[1:]
-    wanted = {("lesson", int(number)), ("screen", FIRST + int(number))} if number.isascii() and number.isdigit() else set()
-    shown = [parts[at + 2] for at in range(0, len(parts), 3) if (parts[at], int(parts[at + 1])) in wanted]
-    if not shown:
-        raise Refused(f"there are no {kind} for lesson {number}; lessons have numbers from 1 on")
-    return "".join(shown)
+    try:
+        lessons = course_lessons.read()
+    except course_lessons.Malformed as error:
+        raise Refused(str(error)) from None
+    lines = [getattr(it, KINDS[kind]) for it in lessons if number.isascii() and number.isdigit() and it.number == int(number)]
+    if not any(lines):
+        raise Refused(f"there are no {kind[2:]} for lesson {number}; lessons have numbers from 1 on")
+    return "".join(f"{line}\n" for line in lines[0])

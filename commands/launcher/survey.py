@@ -34,8 +34,12 @@ LAST = 65535  # no screen has a higher number
 
 def words_of(words: list[str]) -> argparse.Namespace:
     """What the command line asks for."""
-    parser = argparse.ArgumentParser(prog="forth survey", usage="forth survey BLOCKS [FROM TO] [--over IMAGE] [--all]\n       forth survey --card [ANSWERS]",
-                                     description=__doc__, formatter_class=argparse.RawDescriptionHelpFormatter)
+    parser = argparse.ArgumentParser(
+        prog="forth survey",
+        usage="forth survey BLOCKS [FROM TO] [--over IMAGE] [--all]\n       forth survey --card [ANSWERS]",
+        description=__doc__,
+        formatter_class=argparse.RawDescriptionHelpFormatter,
+    )
     parser.add_argument("blocks", metavar="BLOCKS", nargs="?")
     parser.add_argument("bounds", metavar="FROM TO", nargs="*", type=int)
     parser.add_argument("--over", metavar="IMAGE", help="the Forth that knows the words, instead of that of ./forth")

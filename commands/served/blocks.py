@@ -5,6 +5,7 @@ import fcntl
 import os
 import shutil
 
+import whole
 from served import image
 from served.target import BLOCK
 from served.texts import Unreadable
@@ -104,10 +105,7 @@ def keep_lost(file: int, blocks: str) -> str:
     if os.path.exists(blocks) and os.path.samestat(os.stat(blocks), mine):
         return ""
     what = "another file took the place of" if os.path.exists(blocks) else "meanwhile there is no"
-    kept, count = f"{blocks}.session", 1
-    while os.path.exists(kept):
-        count += 1
-        kept = f"{blocks}.session{count}"
+    kept = whole.free_name(f"{blocks}.session")
     try:
         with open(os.dup(file), "rb") as written, open(kept, "xb") as copy:
             written.seek(0)

@@ -8,7 +8,9 @@ byte that is stored.
 from __future__ import annotations
 
 import re
-from typing import Callable, Mapping, NamedTuple, Optional
+from typing import NamedTuple, Optional
+
+from served.faults import Unreadable
 
 ENDS = ".map"
 # What a session loads: the words of ports, before a dialect, which hides REQUIRE; and after it those that give
@@ -17,12 +19,6 @@ BEFORE, AFTER = "REQUIRE board.fs", "INCLUDE devices.fs"
 PORT_FETCH, PORT_STORE = 48, 49  # the services of PORT@ and PORT!
 RANGE = re.compile(r"\s*([0-9A-F]{1,4})(?:\s*-\s*([0-9A-F]{1,4}))?\s+(\S+)\s*(?:[\\#].*)?", re.I)
 REMARK = re.compile(r"\s*(?:[\\#].*)?")
-
-Device = Callable[..., Optional[int]]
-
-
-class Misread(Exception):
-    """What is wrong with a map or with a file of devices, and where."""
 
 
 class Range(NamedTuple):
@@ -39,10 +35,10 @@ def range_of(line: str, place: str) -> Optional[Range]:
         return None
     found = RANGE.fullmatch(line)
     if found is None:
-        raise Misread(f"{place}: a line of a map has addresses in hexadecimal and the name of a device, as in: C0E0-C0E2 adc")
+        raise Unreadable(f"{place}: a line of a map has addresses in hexadecimal and the name of a device, as in: C0E0-C0E2 adc")
     first, last = int(found[1], 16), int(found[2] or found[1], 16)
     if last < first:
-        raise Misread(f"{place}: {found[2]} is before {found[1]}")
+        raise Unreadable(f"{place}: {found[2]} is before {found[1]}")
     return Range(first, last, found[3])
 
 
@@ -53,7 +49,7 @@ def ranges(name: str, content: bytes) -> list[Optional[Range]]:
         one = range_of(line, f"{name}:{number}")
         shared = one and next((other for other in found if other and one.first <= other.last and other.first <= one.last), None)
         if one and shared:
-            raise Misread(f"{name}:{number}: {max(one.first, shared.first):X} is an address of {shared.device} already")
+            raise Unreadable(f"{name}:{number}: {max(one.first, shared.first):X} is an address of {shared.device} already")
         found.append(one)
     return found
 
@@ -62,30 +58,3 @@ def text_of(name: str, content: bytes) -> bytes:
     """A map as a text of Forth, which has a line for each of its lines."""
     lines = (f"BASE @ HEX 0{one.first:X} 0{one.last:X} DEVICE PORT@ PORT! BASE !" if one else "" for one in ranges(name, content))
     return "\n".join(lines).encode("ascii")
-
-
-class Devices:
-    """The devices of a map: they answer the services of ports."""
-
-    def __init__(self, places: list[Optional[Range]], devices: Mapping[str, Device]) -> None:
-        self._places = [one for one in places if one]
-        self._devices = devices
-
-    def missing(self) -> list[str]:
-        """The names that no device has."""
-        return sorted({one.device for one in self._places} - set(self._devices))
-
-    def at(self, address: int) -> Optional[Device]:
-        return next((self._devices[one.device] for one in self._places if one.first <= address <= one.last), None)
-
-    def fetch(self, address: int) -> Optional[int]:
-        """The byte at an address; None if no device has it."""
-        device = self.at(address)
-        return None if device is None else (device(address) or 0) & 255
-
-    def store(self, address: int, byte: int) -> bool:
-        """Stores a byte; whether a device has the address."""
-        device = self.at(address)
-        if device is not None:
-            device(address, byte & 255)
-        return device is not None

@@ -51,8 +51,7 @@ class Catching:
         registers = cells(target.wire.registers())
         count, depth = registers[BUFFERS], len(caught.stack)
         stack = [*left[:depth], *caught.stack[len(left) :], number]
-        target.put_registers(packed(caught.ip, *UNASKED, len(stack), len(caught.returns), count, *stack, *caught.returns,
-                                    *registers[len(registers) - BUFFER * count :]))
+        target.put_registers(packed(caught.ip, *UNASKED, len(stack), len(caught.returns), count, *stack, *caught.returns, *registers[len(registers) - BUFFER * count :]))
         for address, cell in zip((TO_IN, BLK), caught.input):
             target.set_cell(address, cell)
         target.set_cell(target.address("#LOADS"), caught.loads)

@@ -14,16 +14,17 @@ from typing import Any, Callable, Dict, List, Optional, Set
 from served import image
 from served.debuggee import Debuggee
 from served.faults import plain
+from served.past import calls, Frame
 from served.prompt import Ended, Signals
 from served.script import Script
 from served.target import TOP, signed
 from served.texts import FIRST as FIRST_TEXT, Line, lines_of, read_file, Unreadable
-from served.traps import calls, cell, Frame
-from served.wire import Refused
+from served.wire import cell_at, Refused
+from system_cells import BASE, BLK, COLON, CONSTANT, DP, SCR, STATE, TO_IN, VARIABLE
 
 THREAD = 1
 STACK, RETURNS, CELLS = 1, 2, 3  # references of variables
-SYSTEM_CELLS = {"STATE": 16, "BASE": 18, ">IN": 20, "BLK": 22, "HERE": 28, "SCR": 38}
+SYSTEM_CELLS = {"STATE": STATE, "BASE": BASE, ">IN": TO_IN, "BLK": BLK, "HERE": DP, "SCR": SCR}
 ABILITIES = {
     "supportsConfigurationDoneRequest": True,
     "supportsFunctionBreakpoints": True,
@@ -31,7 +32,6 @@ ABILITIES = {
     "supportsEvaluateForHovers": True,
     "supportsTerminateRequest": True,
 }
-VARIABLE_CODE, CONSTANT_CODE, COLON_CODE = 2, 3, 1
 Body = Dict[str, Any]
 
 
@@ -107,8 +107,12 @@ def nothing(_: Debuggee) -> None:
 
 # The requests that let the program go on, with what each prepares.
 STEPS: Dict[str, Callable[[Debuggee], None]] = {
-    "continue": nothing, "next": Debuggee.step_over, "stepIn": Debuggee.step_into, "stepOut": Debuggee.step_out,
+    "continue": nothing,
+    "next": Debuggee.step_over,
+    "stepIn": Debuggee.step_into,
+    "stepOut": Debuggee.step_out,
 }
+ENDS = ("disconnect", "terminate")  # after the answer to these the session ends
 
 
 class NotStarted(Exception):
@@ -206,7 +210,7 @@ class Looks:
     def on_variables(self, asked: Body) -> Body:
         view, which = self._program.debuggee.view(), asked["variablesReference"]
         if which == CELLS:
-            found = [(name, cell(view.memory, at)) for name, at in SYSTEM_CELLS.items()]
+            found = [(name, cell_at(view.memory, at)) for name, at in SYSTEM_CELLS.items()]
         else:
             cells = view.state.stack if which == STACK else view.state.returns
             found = [("top" if not at else f"{at} below", number) for at, number in enumerate(reversed(cells))]
@@ -241,14 +245,14 @@ class Looks:
         """What a name or an address means, as a person would ask for it."""
         view = self._program.debuggee.view()
         if text.isdigit():
-            return f"{text} @ is {signed(cell(view.memory, int(text) % TOP))}"
+            return f"{text} @ is {signed(cell_at(view.memory, int(text) % TOP))}"
         found = [header for header in view.headers if header.name.upper() == text.upper().encode()]
         if not found:
             return f"{text} is unknown"
         header = found[-1]
-        if header.code in (VARIABLE_CODE, CONSTANT_CODE):
-            return str(signed(cell(view.memory, header.token + 2)))
-        if header.code == COLON_CODE:
+        if header.code in (VARIABLE, CONSTANT):
+            return str(signed(cell_at(view.memory, header.token + 2)))
+        if header.code == COLON:
             return self._program.debuggee.wire.see(header.name).decode(errors="replace")
         return f"{plain(header.name)} is at {header.token}"
 
@@ -354,11 +358,13 @@ class Adapter:
             self._messages.send("response", **answer, success=False, message=why)
         if name == "initialize":
             self._event("initialized")
-        if name in ("disconnect", "terminate"):
+        if name in ENDS:
             raise Ended(0)
 
     def _answer(self, name: str, asked: Body) -> Optional[Body]:
         """Does what a request asks; the body of its answer."""
+        if name in ENDS:
+            return None
         if name in STEPS:
             self._step, self._goes_on = STEPS[name], True
             return {"allThreadsContinued": True}
@@ -390,11 +396,6 @@ class Adapter:
 
     def on_pause(self, _: Body) -> None:
         self._pauses = True
-
-    def on_disconnect(self, _: Body) -> None:
-        """The session ends after the answer."""
-
-    on_terminate = on_disconnect
 
 
 def main(program: str) -> int:

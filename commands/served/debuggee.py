@@ -5,14 +5,15 @@ from typing import Callable, Optional
 
 from served import reports
 from served.output import FAULTED
-from served.past import is_thread
+from served.past import calls, has_thread, look, View
 from served.prompt import Ended
 from served.session import Session
 from served.table import SERVICE
-from served.target import DP, FAULT, TOP
+from served.target import DP, FAULT, FENCE
 from served.texts import Line
-from served.traps import calls, cell, CODE_OF_COLON, has_thread, is_users, Traps, View
-from served.wire import Header, Stop
+from served.traps import Traps
+from served.wire import cell_at, Header, Stop
+from system_cells import COLON
 
 SLICE = 200_000  # ticks between two looks at what the debugger asks
 
@@ -85,8 +86,7 @@ class Debuggee(Session):
             return
         self.traps.lift()
         self.past.fault_taken()
-        found = self.past.at_fault()
-        self._frozen = View(*found) if found else None
+        self._frozen = self.past.at_fault()
         text = reports.report(self.target, number, self.refused).lstrip(" ")
         self.report(text)
         self._stopped("exception", text.split("\n", 1)[0])
@@ -114,8 +114,8 @@ class Debuggee(Session):
     def step_into(self) -> None:
         """After the next token, or within the user's word that it calls."""
         view = self.view()
-        token = cell(view.memory, view.state.ip)
-        if is_users(view.memory, token) and cell(view.memory, token) == CODE_OF_COLON:
+        token = cell_at(view.memory, view.state.ip)
+        if token >= cell_at(view.memory, FENCE) and cell_at(view.memory, token) == COLON:
             self._is_single = True
         else:
             self.step_over()
@@ -123,8 +123,8 @@ class Debuggee(Session):
     def step_over(self) -> None:
         """After the next token, with all that it calls."""
         view = self.view()
-        token = cell(view.memory, view.state.ip)
-        if has_thread(cell(view.memory, token)):
+        token = cell_at(view.memory, view.state.ip)
+        if has_thread(cell_at(view.memory, token)):
             self._once = (view.state.ip + 2, len(view.state.returns))
         else:
             self._is_single = True
@@ -139,7 +139,7 @@ class Debuggee(Session):
 
     def view(self) -> View:
         """The machine that has stopped."""
-        return self._frozen or View(self.wire.state(), self.wire.headers(), self.wire.memory(0, TOP))
+        return self._frozen or look(self.target)
 
     def line_of(self, header: Header, address: int) -> Optional[Line]:
         """The line of a text in which the token at an address was compiled."""
@@ -153,20 +153,15 @@ class Debuggee(Session):
     def places_of(self, path: str, number: int) -> list[int]:
         """Where a line of a text begins in a thread: of several, where the text was read more than once, the last one."""
         found: dict[int, int] = {}
-        threads = [header for header in self.wire.headers() if is_thread(header)]
+        threads = [header for header in self.wire.headers() if has_thread(header.code)]
         for begins, block in self.lines:
             line = self.target.texts.place(block)
             if line is None or line.name != path or line.number > number:
                 continue
             inside = [header for header in threads if header.token < begins]
             starts = [header for header in threads if header.view == block]
-            if inside and begins > inside[-1].token + 2 and is_open(self, inside[-1], begins):
+            if inside and begins > inside[-1].token + 2 and begins in self.wire.thread(inside[-1].name):
                 found[line.number] = begins
             elif starts:
                 found[line.number] = starts[-1].token + 2
         return [found[max(found)]] if found else []
-
-
-def is_open(session: Debuggee, header: Header, address: int) -> bool:
-    """Whether an address is in the thread of a word."""
-    return address in session.wire.thread(header.name)

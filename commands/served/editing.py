@@ -300,18 +300,16 @@ class Log:
 
     def undo(self, now: Editing) -> Editing | None:
         """The state before the last step; None if there is none, or if the screen was changed by others since."""
-        if not self.done or self.done[-1][1].page != now.page:
-            return None
-        step = self.done.pop()
-        self.undone.append(step)
-        self.rest()
-        return step[0]
+        return self._move(now, self.done, self.undone, 1)
 
     def redo(self, now: Editing) -> Editing | None:
         """The state after the step that was taken back last."""
-        if not self.undone or self.undone[-1][0].page != now.page:
+        return self._move(now, self.undone, self.done, 0)
+
+    def _move(self, now: Editing, steps: list[tuple[Editing, Editing]], others: list[tuple[Editing, Editing]], side: int) -> Editing | None:
+        """The other side of the last of these steps, of which the screen is at this one; the step is among the others then."""
+        if not steps or steps[-1][side].page != now.page:
             return None
-        step = self.undone.pop()
-        self.done.append(step)
+        others.append(steps.pop())
         self.rest()
-        return step[1]
+        return others[-1][1 - side]

@@ -26,8 +26,16 @@ PASTE_ON, PASTE_OFF = "\x1b[?2004h", "\x1b[?2004l"
 NO_KEY = -1
 # Keys of terminals that send other bytes than terminfo says: what comes after ESC [.
 SEQUENCES: dict[str, str | int] = {
-    "A": curses.KEY_UP, "B": curses.KEY_DOWN, "C": curses.KEY_RIGHT, "D": curses.KEY_LEFT, "H": curses.KEY_HOME, "F": curses.KEY_END,
-    "1~": curses.KEY_HOME, "4~": curses.KEY_END, "1;5C": "next word", "1;5D": "last word",
+    "A": curses.KEY_UP,
+    "B": curses.KEY_DOWN,
+    "C": curses.KEY_RIGHT,
+    "D": curses.KEY_LEFT,
+    "H": curses.KEY_HOME,
+    "F": curses.KEY_END,
+    "1~": curses.KEY_HOME,
+    "4~": curses.KEY_END,
+    "1;5C": "next word",
+    "1;5D": "last word",
 }
 
 
@@ -347,12 +355,28 @@ class Editor:
         self.left: Left | None = None
         back, on = lambda: sheet.go(sheet.kept.block - 1), lambda: sheet.go(sheet.kept.block + 1)
         self.commands: dict[str | int, typing.Callable[[], None]] = {
-            "\x18": lambda: self.leave(Left.SAVING), "\x03": lambda: self.leave(Left.INTERRUPTED),
-            "\x1c": lambda: self.leave(Left.INTERRUPTED), "\x07": self.drop,
-            "\x15": sheet.undo, "\x1f": sheet.undo, "\x11": sheet.redo,
-            "\x16": on, curses.KEY_NPAGE: on, "\x02": back, curses.KEY_PPAGE: back, "\x1d": self.go_to_shadow,
-            "\x19": self.cut, "\x14": self.take, "\x13": self.put_line, "alt t": self.take_screen, "alt s": self.put_screen,
-            "\x06": self.find, "\x1a": self.stop, "\x0c": window.clear, curses.KEY_IC: self.switch, curses.KEY_RESIZE: window.clear,
+            "\x18": lambda: self.leave(Left.SAVING),
+            "\x03": lambda: self.leave(Left.INTERRUPTED),
+            "\x1c": lambda: self.leave(Left.INTERRUPTED),
+            "\x07": self.drop,
+            "\x15": sheet.undo,
+            "\x1f": sheet.undo,
+            "\x11": sheet.redo,
+            "\x16": on,
+            curses.KEY_NPAGE: on,
+            "\x02": back,
+            curses.KEY_PPAGE: back,
+            "\x1d": self.go_to_shadow,
+            "\x19": self.cut,
+            "\x14": self.take,
+            "\x13": self.put_line,
+            "alt t": self.take_screen,
+            "alt s": self.put_screen,
+            "\x06": self.find,
+            "\x1a": self.stop,
+            "\x0c": window.clear,
+            curses.KEY_IC: self.switch,
+            curses.KEY_RESIZE: window.clear,
         }
 
     def run(self) -> Left:
@@ -496,8 +520,7 @@ def write(text: str) -> None:
     os.write(1, text.encode())
 
 
-def edit(screen: int, blocks: Blocks, at: tuple[int, int] | None = None, *, kept: Kept | None = None, shadow: int = 0,
-         is_ended: typing.Callable[[], bool] = lambda: False) -> Left:
+def edit(screen: int, blocks: Blocks, at: tuple[int, int] | None = None, *, kept: Kept | None = None, shadow: int = 0, is_ended: typing.Callable[[], bool] = lambda: False) -> Left:
     """Edits screens of `blocks`, from `screen` on, with the cursor at a line and a byte; a word that begins at `at` is marked.
 
     `is_ended` says whether the editor must leave: after a signal, for example. What is kept from one call to the next is `kept`.

@@ -1,4 +1,4 @@
-"""The place of a fault: where its word is in the input. And the texts of data/faults.txt."""
+"""The place of a fault: where its word is in the input; the texts of data/faults.txt; and why a text cannot be taken."""
 from __future__ import annotations
 
 import os
@@ -19,6 +19,10 @@ def section(name: str) -> list[tuple[str, str]]:
 
 
 MESSAGES = dict(section("faults"))
+
+
+class Unreadable(Exception):
+    """A text that cannot be taken, and why."""
 
 
 class Input(NamedTuple):

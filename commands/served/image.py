@@ -160,9 +160,11 @@ def make_kernel(program: str, kernel: str, room: str, blocks: str) -> None:
         if not kernel:
             raise
         launcher = os.path.join(ROOT, "forth83")
-        raise NotMade(f"{error}\nforth: nothing was changed; ./forth BLOCKS still starts with the program's own kernel\n"
-                      f"forth: to restore the kernel's screens, run: {launcher} kernel new.blk\n"
-                      f"forth: then: dd if=new.blk of={kernel} bs=1024 skip=1 seek=1 count=20 conv=notrunc") from error
+        raise NotMade(
+            f"{error}\nforth: nothing was changed; ./forth BLOCKS still starts with the program's own kernel\n"
+            f"forth: to restore the kernel's screens, run: {launcher} kernel new.blk\n"
+            f"forth: then: dd if=new.blk of={kernel} bs=1024 skip=1 seek=1 count=20 conv=notrunc"
+        ) from error
 
 
 def parts_of(program: str, path: str, text: str) -> list[paging.Screen]:

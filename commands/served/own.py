@@ -75,14 +75,6 @@ class Maker(Session):
         """Writes the screens that what it loaded has changed; the status."""
         return self.keeping.close(0, self.report)
 
-    def start(self) -> str:
-        """The word that the image starts with; empty if it is the Forth."""
-        return start_of(self.target)
-
-    def image(self) -> bytes:
-        """The bytes of its file."""
-        return image_of(self.target)
-
 
 def start_of(target: Target) -> str:
     """The word that an image of this machine starts with; empty if it is the Forth."""
@@ -158,7 +150,7 @@ def make_own(program: str, own: str, screens: list[int], blocks: Optional[str], 
         open_blocks(program, blocks)
     try:
         maker = loaded(program, images, blocks, lines)
-        starts, made = maker.start(), maker.image()
+        starts, made = start_of(maker.target), image_of(maker.target)
         status = maker.end()
         write_own(own, made)
     except Unreadable as error:

@@ -4,11 +4,12 @@ from __future__ import annotations
 from typing import NamedTuple, Optional
 
 from served.target import TOP, Target
-from served.wire import Header, Refused, State
+from served.wire import cell_at, Header, Refused, State
 from system_cells import COLON
 
 MOST = 100  # machines that are kept
 SLICE = 1_000_000
+LAST_ROW = 255  # the greatest code field of the kernel's own words
 NO_FAULT, TOO_MUCH = "there was no fault yet", "the line took too many keys, blocks and services to be run again, or used ports"
 # What calls the words of a line, or the word that an image starts with.
 INTERPRETERS = (b"BY-NAMES", b"BY-ROWS", b"BY-DIALECT", b"INTERPRET", b"DO-BOOT", b"COLD")
@@ -33,9 +34,29 @@ def keep(target: Target) -> Kept:
     return Kept(target.wire.registers(), target.wire.memory(0, TOP))
 
 
+def look(target: Target) -> View:
+    return View(target.wire.state(), target.wire.headers(), target.wire.memory(0, TOP))
+
+
 def put_back(target: Target, kept: Kept) -> None:
     target.wire.put_registers(kept.registers)
     target.wire.put_memory(0, kept.memory)
+
+
+class View(NamedTuple):
+    """A machine that has stopped, as it is looked at: its state, its words and its memory."""
+
+    state: State
+    headers: list[Header]
+    memory: bytes
+
+
+class Frame(NamedTuple):
+    """A call that has not returned: its word, the address of its next token, and how high the return stack is in it."""
+
+    header: Header
+    address: int
+    height: int
 
 
 class Past:
@@ -70,15 +91,15 @@ class Past:
         put_back(self._target, before)
         return True
 
-    def at_fault(self) -> Optional[tuple[State, list[Header], bytes]]:
-        """The machine just before the last fault, its words and its memory. Afterwards the machine is what it was."""
+    def at_fault(self) -> Optional[View]:
+        """The machine just before the last fault. Afterwards the machine is what it was."""
         if self.fault is None:
             return None
         now = keep(self._target)
         try:
             put_back(self._target, self.fault.before)
             self._run_again(self.fault)
-            return self._target.wire.state(), self._target.wire.headers(), self._target.wire.memory(0, TOP)
+            return look(self._target)
         finally:
             put_back(self._target, now)
 
@@ -108,20 +129,21 @@ class Past:
         return done
 
 
-def callers(state: State, headers: list[Header], memory: bytes) -> list[Header]:
-    """The words from the innermost one to that which the line has: a return address comes after a call, in a word's thread."""
-    threads = {header.token for header in headers if is_thread(header)}
-    found: list[Header] = []
-    for address in [state.ip, *reversed(state.returns)]:
-        inside = [header for header in headers if header.token < address]
-        called = int.from_bytes(memory[address - 2 : address], "little")
-        if inside and is_thread(inside[-1]) and (called in threads or address == state.ip):
+def calls(view: View) -> list[Frame]:
+    """The calls that have not returned, the innermost first, up to the line's: a return address comes after a call, in a word's thread."""
+    threads = {header.token for header in view.headers if has_thread(header.code)}
+    found: list[Frame] = []
+    addresses = [*view.state.returns, view.state.ip]
+    for height, address in reversed(list(enumerate(addresses))):
+        inside = [header for header in view.headers if header.token < address]
+        called = cell_at(view.memory, address - 2)
+        if inside and has_thread(inside[-1].code) and (address == view.state.ip or called in threads):
             if inside[-1].name in INTERPRETERS:
                 break
-            found.append(inside[-1])
+            found.append(Frame(inside[-1], address, height))
     return found
 
 
-def is_thread(header: Header) -> bool:
-    """Whether a word has a thread: `:` or DOES> made it."""
-    return header.code == COLON or header.code > 255
+def has_thread(code: int) -> bool:
+    """Whether words of this code field have a thread: `:` or DOES> made them."""
+    return code == COLON or code > LAST_ROW

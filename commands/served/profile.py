@@ -1,11 +1,11 @@
 """PROFILE: in which words the ticks of a line are spent."""
 from __future__ import annotations
 
+import bisect
 from collections import Counter
-from typing import Optional
 
 from served.faults import plain
-from served.past import is_thread
+from served.past import has_thread
 from served.target import Target
 from served.wire import Header, State, Stop
 
@@ -32,19 +32,9 @@ class Profile:
         address = state.ip if state.pending is None else state.pending
         if not self._headers or address >= self._headers[-1].token:
             self._headers = self._target.wire.headers()
-        header = self._last_up_to(address)
-        return plain(header.name) if header and (is_thread(header) or header.token == address) else "no word"
-
-    def _last_up_to(self, address: int) -> Optional[Header]:
-        """The word whose extent has the address."""
-        low, high = 0, len(self._headers)
-        while low < high:
-            middle = (low + high) // 2
-            if self._headers[middle].token <= address:
-                low = middle + 1
-            else:
-                high = middle
-        return self._headers[low - 1] if low else None
+        at = bisect.bisect_left(self._headers, (address + 1,))  # a header begins with its word's address
+        header = self._headers[at - 1] if at else None
+        return plain(header.name) if header and (has_thread(header.code) or header.token == address) else "no word"
 
     def table(self) -> str:
         """The words with at least a hundredth of the ticks, and their shares."""

@@ -23,8 +23,15 @@ PATIENCE = 1.0  # seconds that readline has to let a signal be seen
 KEPT = 10_000  # lines of the history
 ENDINGS = (signal.SIGTERM, signal.SIGHUP, signal.SIGQUIT)
 KEYS = {  # what EKEY leaves for a sequence
-    b"[A": 257, b"[B": 258, b"[C": 259, b"[D": 260, b"[H": 261, b"[F": 262, b"[1~": 261, b"[4~": 262, b"[2~": 263, b"[3~": 264,
-    b"[5~": 265, b"[6~": 266, b"[1;5D": 267, b"[1;5C": 268, b"OA": 257, b"OB": 258, b"OC": 259, b"OD": 260, b"OH": 261, b"OF": 262,
+    **{bytes([first, last]): number for first in b"[O" for number, last in enumerate(b"ABCDHF", 257)},
+    b"[1~": 261,
+    b"[4~": 262,
+    b"[2~": 263,
+    b"[3~": 264,
+    b"[5~": 265,
+    b"[6~": 266,
+    b"[1;5D": 267,
+    b"[1;5C": 268,
 }
 ESCAPE_ALONE, UNKNOWN_KEY = 269, 256
 
@@ -190,16 +197,12 @@ class Terminal:
 
     def _complete(self, part: str, at: int) -> Optional[str]:
         with self._signals.undisturbed():
-            return self._match(part, at)
-
-    def _match(self, part: str, at: int) -> Optional[str]:
-        if at == 0:
             before = readline.get_line_buffer()[: readline.get_begidx()].upper().split()
-            if before and before[-1] in ("INCLUDE", "RELOAD"):
+            if at == 0 and before and before[-1] in ("INCLUDE", "RELOAD"):
                 self._matches = paths(part)
-            else:
+            elif at == 0:
                 self._matches = sorted({name for name in self._names() if name.upper().startswith(part.upper())})
-        return self._matches[at] if at < len(self._matches) else None
+            return self._matches[at] if at < len(self._matches) else None
 
     # Lines and keys
 

@@ -10,7 +10,7 @@ from served.advising import Lines, source
 from served.script import STANDARD_INPUT
 from served.target import BASE, DP, signed, Target
 from served.texts import FIRST as FIRST_TEXT, Line
-from served.wire import Header, Refused, State
+from served.wire import cell_at, Refused
 
 LINE = 64
 
@@ -48,6 +48,14 @@ def defined(target: Target) -> list[str]:
     except Refused:
         newest = []
     return [faults.plain(header.name) for header in newest if header.is_hidden]
+
+
+def unfinished(target: Target, lines: list[tuple[str, str]]) -> str:
+    """What is said of a definition that is still open after these lines of a script, and the line on which it begins."""
+    name = next(iter(defined(target)), "")
+    begun = target.texts.place(target.wire.headers()[-1].view) if name else None
+    place = (named(begun), faults.plain(begun.text)) if begun else lines[0]
+    return "\n".join([f"{name or 'a definition'} is not finished: its ; is missing", *place]) + "\n"
 
 
 def report(target: Target, number: int, said: str) -> str:
@@ -120,14 +128,14 @@ def loader_lines(target: Target, block: int) -> list[str]:
     return found
 
 
-def way(target: Target, state: State, headers: list[Header], memory: bytes) -> str:
+def way(target: Target, view: past.View) -> str:
     """The words that led to a fault, from the one that had it on, each with its place; and the stack. The machine is one just before it."""
-    token = state.pending or int.from_bytes(memory[state.ip : state.ip + 2], "little")
-    found = [*(header for header in headers if header.token == token), *past.callers(state, headers, memory)]
+    token = view.state.pending or cell_at(view.memory, view.state.ip)
+    found = [*(header for header in view.headers if header.token == token), *(frame.header for frame in past.calls(view))]
     lines = [f"{faults.plain(header.name):16} {words.place_of(target, header.view, header.token)}" for header in found]
     counted = [(line, len(list(same))) for line, same in itertools.groupby(lines)]
     shown = [line + f", {count} times" * (count > 1) for line, count in counted]
-    return "\n".join([*shown, f"stack: {' '.join(str(signed(cell)) for cell in state.stack) or 'empty'}"]) + "\n"
+    return "\n".join([*shown, f"stack: {' '.join(str(signed(cell)) for cell in view.state.stack) or 'empty'}"]) + "\n"
 
 
 def named(place: Line) -> str:

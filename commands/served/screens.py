@@ -3,12 +3,12 @@ from __future__ import annotations
 
 import os
 import re
-import subprocess
 
+from served import image
 from served.faults import section
 from served.paging import headings_in
 from served.target import BLOCK
-from served.texts import read_file, Unreadable
+from served.texts import read_text, Unreadable
 
 REFUSED = re.compile(r"line (\d+): (\w+) ?(\d*)")
 
@@ -21,11 +21,10 @@ def why(said: str) -> str:
 
 def run(name: str, *words: str) -> str:
     """Runs the program over the text of this name, and returns what it prints; Unreadable if it refuses the text."""
-    done = subprocess.run(words, stdin=subprocess.DEVNULL, capture_output=True, check=False)
-    said = (done.stdout + done.stderr).decode(errors="replace")
-    if done.returncode:
-        raise Unreadable(f"{name}: {why(said.strip()) or f'status {done.returncode}'}")
-    return said
+    try:
+        return image.run(*words)
+    except image.NotMade as error:
+        raise Unreadable(f"{name}: {why(str(error))}") from error
 
 
 def read_screens(forth83: str, name: str, count: int, room: str) -> list[tuple[int, bytes]]:
@@ -33,12 +32,8 @@ def read_screens(forth83: str, name: str, count: int, room: str) -> list[tuple[i
     if not name:
         raise Unreadable("RELOAD needs the name of a file")
     text, made = os.path.join(room, "text"), os.path.join(room, "made.blk")
-    try:
-        content = read_file(name)
-    except OSError as error:
-        raise Unreadable(f"cannot read {name}: {error.strerror}") from error
     with open(text, "wb") as copy:
-        copy.write(content)
+        copy.write(read_text(name))
     numbers = sorted(number for number, _ in headings_in(run(name, forth83, "headings", text)))
     if not numbers:
         raise Unreadable(f"{name} has no line like: % screen 30; INCLUDE {name} loads a text of Forth")

@@ -11,7 +11,7 @@ from served.faults import MISSING, SAID, UNKNOWN, plain, section
 from served.prompt import Ended, Interrupted
 from served.script import Script
 from served.profile import Profile
-from served.table import function_name, numbers, SECOND
+from served.table import function_name, NAMES, SECOND
 from served.target import BLK, BLOCK, CONTEXT, FENCE, SCR, STATE, Target, TO_IN, signed
 from served.texts import end_of_comment, EndOf, FIRST as FIRST_TEXT, LONGEST, Skipped, Unreadable
 from served.wire import Header, Refused
@@ -47,22 +47,25 @@ def register(path: str) -> None:
 
 def register_devices(path: str, places: list[Optional[bridge.Range]]) -> None:
     """Takes the devices of a file of Python for the addresses of a map: they are the ports."""
-    devices = bridge.Devices(places, taken(path, "DEVICES"))
-    if devices.missing():
-        raise Unreadable(f"cannot use {path}: it has no device {', '.join(devices.missing())}, which the map names; DEVICES has a function for each name")
+    devices, named = taken(path, "DEVICES"), [one for one in places if one]
+    missing = sorted({one.device for one in named} - set(devices))
+    if missing:
+        raise Unreadable(f"cannot use {path}: it has no device {', '.join(missing)}, which the map names; DEVICES has a function for each name")
+
+    def asked(address: int, *byte: int) -> int:
+        """What the device at an address answers: its byte, or what it says of the byte that it gets."""
+        found = next((devices[one.device] for one in named if one.first <= address <= one.last), None)
+        if found is None:
+            raise Refusal(f"the map has no device at {address:04X}")
+        return found(address, *byte) or 0
 
     def fetch(machine: Target) -> int:
-        address = machine.wire.state().stack[-1]
-        byte = devices.fetch(address)
-        if byte is None:
-            raise Refusal(f"the map has no device at {address:04X}")
-        machine.set_results(byte, 0)
+        machine.set_results(asked(machine.wire.state().stack[-1]) & 255, 0)
         return 0
 
     def store(machine: Target) -> int:
         byte, address = machine.wire.state().stack[-2:]
-        if not devices.store(address, byte):
-            raise Refusal(f"the map has no device at {address:04X}")
+        asked(address, byte & 255)
         return 0
 
     REGISTERED.update({bridge.PORT_FETCH: fetch, bridge.PORT_STORE: store})
@@ -82,13 +85,12 @@ class Moved(Exception):
 
 def serve(session: Session, number: int) -> int:
     """Does a service; the fault by which it refuses, or 0."""
-    names = {number: name for name, number in numbers().items()}
     try:
         if number in REGISTERED:
             return from_python(session, number)
-        if number not in names:
+        if not 0 < number <= len(NAMES):
             raise Refusal(f"nobody has registered service {number}")
-        globals()[function_name(names[number])](session)
+        globals()[function_name(NAMES[number - 1])](session)
     except Refusal as refusal:
         session.refused = refusal.said
         return refusal.fault
@@ -219,11 +221,8 @@ def do_reload(session: Session) -> None:
     from served.screens import read_screens
 
     name = session.target.word()
-    try:
-        with tempfile.TemporaryDirectory() as room:
-            pages = read_screens(session.program, os.path.expanduser(name), session.target.count(), room)
-    except Unreadable as error:
-        raise Refusal(str(error)) from error
+    with tempfile.TemporaryDirectory() as room:
+        pages = read_screens(session.program, os.path.expanduser(name), session.target.count(), room)
     for number, page in pages:
         put(session, number, page)
 
@@ -232,7 +231,11 @@ def do_reload(session: Session) -> None:
 
 
 def do_list(session: Session) -> None:
-    number = numbers_on_stack(session, 1)[0]
+    show(session, numbers_on_stack(session, 1)[0])
+
+
+def show(session: Session, number: int) -> None:
+    """Shows a screen with the numbers of its lines."""
     session.say_line(f"Screen {number}\n")
     for at, line in enumerate(lines_of(screen(session, number))):
         session.say(f"{at:2} {plain(line)}".rstrip() + "\n")
@@ -407,20 +410,18 @@ def do_see(session: Session) -> None:
 
 
 def do_view(session: Session) -> None:
-    typed, name = found_word(session)
+    _, name = found_word(session)
     view = session.target.wire.view(name)
     place = session.target.texts.place(view)
     if place:
         session.say_line(f"{place.name}:{place.number}\n{plain(place.text)}\n")
-    elif session.target.look_up(typed) and session.target.wire.token(name) < session.target.wire.cell(FENCE):
+    elif session.target.wire.token(name) < session.target.wire.cell(FENCE):
         session.say_line(words.system_source(session.images, view))
     elif not view:
         session.say("typed, not on a screen ")
     else:
         session.target.set_cell(SCR, view)
-        session.say_line(f"Screen {view}\n")
-        for at, line in enumerate(lines_of(screen(session, view))):
-            session.say(f"{at:2} {plain(line)}".rstrip() + "\n")
+        show(session, view)
 
 
 def do_locate(session: Session) -> None:
@@ -602,7 +603,7 @@ def do_why(session: Session) -> None:
     found = session.past.at_fault()
     if found is None:
         raise Refusal(session.past.why_none)
-    session.say_line(reports.way(session.target, *found))
+    session.say_line(reports.way(session.target, found))
 
 
 def do_fault_text(session: Session) -> None:
@@ -627,7 +628,7 @@ def stepped_word(session: Session, what: str) -> tuple[str, Header, list[Header]
     token = session.target.wire.token(name)
     headers = session.target.wire.headers()
     header = next(header for header in headers if header.token == token)
-    if not past.is_thread(header):
+    if not past.has_thread(header.code):
         raise Refusal(f"{typed} has no steps: neither : nor DOES> made it")
     return typed, header, headers
 

@@ -27,8 +27,15 @@ class Session(Output):
 
     ending = "forth: a fault stopped the script\n"  # what is said after a fault in a script
 
-    def __init__(self, words: list[str], blocks: Optional[str], signals: Signals, script: Optional[Script], arguments: list[str],
-                 wire: Callable[[list[str], Callable[[bytes], None]], Wire] = Wire) -> None:
+    def __init__(
+        self,
+        words: list[str],
+        blocks: Optional[str],
+        signals: Signals,
+        script: Optional[Script],
+        arguments: list[str],
+        wire: Callable[[list[str], Callable[[bytes], None]], Wire] = Wire,
+    ) -> None:
         """The machine is that of the server that these words start, or that of a board."""
         self.program, self.images, self.signals, self.arguments = words[0], os.path.dirname(words[2]), signals, arguments
         super().__init__(script is not None, signals)
@@ -211,7 +218,7 @@ class Session(Output):
             self.report(f"{error}\n{self.ending}")
             raise Ended(FAULTED) from error
         if line is None:
-            raise Ended(self.status)
+            raise Ended(self._end_of_script())
         if self.console.is_shown:
             self.show(line.text + b" ")
         blocks = self.target.texts.add([line])
@@ -220,11 +227,19 @@ class Session(Output):
         self._give_line(b"")
         self._look_at_line(reports.named(line), line.text)
 
+    def _end_of_script(self) -> int:
+        """The status of a script without more lines: that of a fault, which is reported, if a definition is still open."""
+        is_open = self.wire.cell(STATE) or reports.defined(self.target)
+        if not is_open or not self.open_lines:
+            return self.status
+        self.report(reports.unfinished(self.target, self.open_lines))
+        return FAULTED
+
     def _look_at_line(self, name: str, line: bytes) -> None:
         """Looks at a line after those of the open definition, if it belongs to one."""
-        before = [("", text) for _, text in self.open_lines] if self.wire.cell(STATE) else []
+        before = self.open_lines if self.wire.cell(STATE) else []
         self.open_lines = [*before, (name, faults.plain(line))]
-        self.look_at(self.open_lines)
+        self.look_at([*(("", text) for _, text in before), self.open_lines[-1]])
 
     def look_at(self, lines: list[tuple[str, str]]) -> None:
         """Says so if EXIT is in a counted loop of these lines."""

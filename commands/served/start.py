@@ -11,7 +11,7 @@ from served.prompt import Ended, Signals
 from served.script import Script
 from served.session import Session
 from served.target import SCR
-from served.texts import Line, lines_of, read_file, Unreadable
+from served.texts import Line, lines_of, read_file, read_text, Unreadable
 from served.wire import Gone, Wire
 
 ENDS = (".fs", ".fth", ".4th", ".frt", ".f")
@@ -20,11 +20,18 @@ TITLE = b"(  1  Control: threads and loops )"  # the first line of a kernel's so
 USAGE, INTERRUPTED = 2, 130
 FLAGS = ("--quiet", "--kernel", "--proved", "--unproved", "--dap", "--start", "--no-start")
 TOGETHER = ("--kernel", "--quiet"), ("--proved", "--unproved"), ("--start", "--no-start"), ("--kernel", "--start")  # not these
-VALUES = {"-e": ("some words of Forth", 1), "--kernel-of": ("the name of a file", 1), "--program": ("the name of a file", 1),
-          "--services": ("a file of Python", 1), "--target": ("a board's serial line, as /dev/ttyACM0", 1),
-          "--speed": ("the bits a second of the line", 1),
-          "--bridge": ("a map of devices", 1), "--devices": ("a file of Python", 1), "--dialect": ("a dialect, as fig", 1),
-          "--image": ("OWN, the name of an image, and what it loads: the screens FROM TO, texts, or both", 1)}
+VALUES = {
+    "-e": ("some words of Forth", 1),
+    "--kernel-of": ("the name of a file", 1),
+    "--program": ("the name of a file", 1),
+    "--services": ("a file of Python", 1),
+    "--target": ("a board's serial line, as /dev/ttyACM0", 1),
+    "--speed": ("the bits a second of the line", 1),
+    "--bridge": ("a map of devices", 1),
+    "--devices": ("a file of Python", 1),
+    "--dialect": ("a dialect, as fig", 1),
+    "--image": ("OWN, the name of an image, and what it loads: the screens FROM TO, texts, or both", 1),
+}
 
 
 class Misused(Exception):
@@ -166,10 +173,7 @@ def script_lines(wanted: Asked) -> list[Line]:
     """All lines of a script's texts, before any of them is done."""
     found = [Line("bridge", number, line) for number, line in enumerate(first_lines(wanted), 1)]
     for name in texts_of(wanted, False):
-        try:
-            found += lines_of(name, read_file(name))
-        except OSError as error:
-            raise Unreadable(f"cannot read {name}: {error.strerror}") from error
+        found += lines_of(name, read_text(name))
     return found + [Line("-e", number, os.fsencode(line)) for number, line in enumerate(wanted.lines, 1)]
 
 
@@ -243,12 +247,7 @@ def register(wanted: Asked) -> None:
     if wanted.services:
         services.register(wanted.services)
     if wanted.bridge:
-        try:
-            places = bridge.ranges(wanted.bridge, read_file(wanted.bridge))
-        except OSError as error:
-            raise Unreadable(f"cannot read {wanted.bridge}: {error.strerror}") from error
-        except bridge.Misread as error:
-            raise Unreadable(str(error)) from error
+        places = bridge.ranges(wanted.bridge, read_text(wanted.bridge))
         if wanted.devices:
             services.register_devices(wanted.devices, places)
 

@@ -5,9 +5,9 @@ from typing import TYPE_CHECKING, Optional
 
 from served import words
 from served.faults import plain
-from served.past import is_thread
+from served.past import has_thread
 from served.target import FENCE, signed
-from served.traps import has_thread, Traps
+from served.traps import Traps
 from served.wire import Header, State, Stop
 
 if TYPE_CHECKING:
@@ -132,7 +132,7 @@ class Steps:
     def _show(self, state: State) -> None:
         """Shows the stack and the next word, after the place of the word that has it."""
         session = self._session
-        inside = [header for header in self._headers if header.token < state.ip and is_thread(header)]
+        inside = [header for header in self._headers if header.token < state.ip and has_thread(header.code)]
         place = words.place_of(session.target, inside[-1].view, inside[-1].token) if inside else ""
         text = session.target.texts.place(inside[-1].view) if inside else None
         if place != self._place:

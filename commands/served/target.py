@@ -161,9 +161,5 @@ class Target:
         return None
 
 
-def plain_name(name: bytes) -> str:
-    return name.decode("utf-8", "surrogateescape")
-
-
 def signed(cell: int) -> int:
     return cell - TOP * (cell >= TOP // 2)

@@ -11,6 +11,7 @@ import stat
 from typing import Callable, NamedTuple, Optional
 
 from served import bridge
+from served.faults import Unreadable
 from served.image import LIBRARY, with_numbers
 
 FIRST = 32768  # blocks from here on are lines of texts
@@ -20,10 +21,6 @@ LARGEST = 16 << 20  # bytes of a text
 EVALUATED = "EVALUATE"  # what stands for the file of a text that a program gives
 BYTE_ORDER = b"\xef\xbb\xbf"  # what may be before a text in UTF-8
 MARKS = {b"\xff\xfe": "UTF-16", b"\xfe\xff": "UTF-16"}
-
-
-class Unreadable(Exception):
-    """A text that cannot be taken, and why."""
 
 
 class Line(NamedTuple):
@@ -47,12 +44,12 @@ def read_file(name: str) -> bytes:
     return with_numbers(content.decode()).encode() if os.path.dirname(os.path.realpath(name)) == LIBRARY else content
 
 
-def forth_of(path: str, content: bytes) -> bytes:
-    """The Forth of a file that is included: a map of devices stands for one."""
+def read_text(path: str, name: str = "") -> bytes:
+    """The same; Unreadable says why the file, which may have been named otherwise, cannot be read."""
     try:
-        return bridge.text_of(path, content) if path.endswith(bridge.ENDS) else content
-    except bridge.Misread as error:
-        raise Unreadable(str(error)) from error
+        return read_file(path)
+    except OSError as error:
+        raise Unreadable(f"cannot read {name or path}: {error.strerror}") from error
 
 
 def lines_of(name: str, content: bytes) -> list[Line]:
@@ -118,16 +115,14 @@ class Texts:
         if not name and not self.last:
             raise Unreadable("INCLUDE needs the name of a file")
         path = self.path(name or self.last, beside)
-        try:
-            content = read_file(path)
-        except OSError as error:
-            raise Unreadable(f"cannot read {name or path}: {error.strerror}") from error
+        content = read_text(path, name)
         if self.place(beside or 0) is None:
             self.last = path
         self.included.add(os.path.realpath(path))
         key = (os.path.realpath(path), content)
         if key not in self._ranges:
-            self._ranges[key] = self.add(lines_of(path, forth_of(path, content)))
+            # A map of devices stands for the Forth that gives them their addresses.
+            self._ranges[key] = self.add(lines_of(path, bridge.text_of(path, content) if path.endswith(bridge.ENDS) else content))
         for block in self._ranges[key]:
             self._pages.pop(block, None)
         return self._ranges[key]

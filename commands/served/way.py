@@ -44,7 +44,7 @@ class Way(Kernel):
         if found:
             said = self.target.adviser.meaning(self.number or fault).strip()
             self.write(2, b"\n" * bool(self.column))
-            self._report(f"{said}\n{reports.way(self.target, *found)}")
+            self._report(f"{said}\n{reports.way(self.target, found)}")
 
 
 def where(program: str, image: str, blocks: Optional[str]) -> int:

@@ -55,6 +55,10 @@ def cells(body: bytes) -> list[int]:
     return list(struct.unpack(f"<{len(body) // 2}H", body))
 
 
+def cell_at(memory: bytes, address: int) -> int:
+    return int.from_bytes(memory[address : address + 2], "little")
+
+
 def packed(*numbers: int) -> bytes:
     return struct.pack(f"<{len(numbers)}H", *(number & 0xFFFF for number in numbers))
 
@@ -102,11 +106,14 @@ class Server:
 class Channel(Protocol):
     """Where a server is: a pipe, or a serial line."""
 
-    def come(self) -> bytes: ...
+    def come(self) -> bytes:
+        ...
 
-    def send(self, frames: bytes) -> None: ...
+    def send(self, frames: bytes) -> None:
+        ...
 
-    def close(self) -> None: ...
+    def close(self) -> None:
+        ...
 
 
 class Frames:

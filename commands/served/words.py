@@ -1,12 +1,13 @@
 """What is known of words and memory: lists of words, the kinds of those that SEE has no source for, and the system's sources."""
 from __future__ import annotations
 
+import os
 from typing import Iterable, Iterator, Sequence
 
 from served import image
 from served.faults import plain, section
-from served.target import CONTEXT, FENCE, FORTH_VOC, TOP, Target, plain_name
-from served.wire import Header
+from served.target import CONTEXT, FENCE, FORTH_VOC, TOP, Target
+from served.wire import cell_at, Header
 from system_cells import CONSTANT, VARIABLE, VOCABULARY
 
 WIDTH = 64
@@ -20,7 +21,7 @@ def visible(target: Target, vocabularies: Sequence[int] = ()) -> list[Header]:
     memory = target.wire.memory(0, TOP)
     by_link = {header.token - 3 - len(header.name): header for header in target.wire.headers()}
     found: dict[bytes, tuple[int, Header]] = {}
-    for vocabulary in vocabularies or (cell_of(memory, CONTEXT), FORTH_VOC):
+    for vocabulary in vocabularies or (cell_at(memory, CONTEXT), FORTH_VOC):
         for link in links(memory, vocabulary):
             header = by_link.get(link)
             if header and not header.is_hidden and header.name not in found:
@@ -33,17 +34,13 @@ def names(target: Target) -> list[str]:
     return [plain(header.name) for header in visible(target)]
 
 
-def cell_of(memory: bytes, address: int) -> int:
-    return int.from_bytes(memory[address : address + 2], "little")
-
-
 def links(memory: bytes, vocabulary: int) -> Iterator[int]:
     """The link fields of a vocabulary's four chains, of each the newest first."""
     for head in range(vocabulary, vocabulary + 8, 2):
-        link, left = cell_of(memory, head), LONGEST_CHAIN
+        link, left = cell_at(memory, head), LONGEST_CHAIN
         while link and left:
             yield link
-            link, left = cell_of(memory, link), left - 1
+            link, left = cell_at(memory, link), left - 1
 
 
 def listed(headers: Iterable[Header], part: str) -> str:
@@ -71,7 +68,7 @@ def kind(target: Target, name: bytes) -> str:
     if PRIMITIVES <= code <= 255:
         return f"primitive {code}"
     maker = [header for header in target.wire.headers() if header.token < code]
-    return f"made by {plain_name(maker[-1].name)}, with {body} first" if maker else f"code {code}"
+    return f"made by {os.fsdecode(maker[-1].name)}, with {body} first" if maker else f"code {code}"
 
 
 def place_of(target: Target, view: int, token: int) -> str:

@@ -21,7 +21,9 @@ _CELL, _LONG, _SIZE = ctypes.c_uint16, ctypes.c_uint32, ctypes.c_uint64
 Status = enum.IntEnum(
     "Status",
     "DONE NO_MACHINE OUT_OF_MEMORY SHORT_ROOM TRUNCATED TRAILING_BYTES BAD_MAGIC BAD_VERSION BAD_BUFFERS BAD_SIZE HALTED WAITING NOT_ASKED BAD_PAGE STACK "
-    "NOT_FOUND CHAIN_TOO_LONG NOT_COLON NOT_STRUCTURED NAMELESS SHADOWED BAD_TEXT LONG_REPLY REFUSED", start=0)
+    "NOT_FOUND CHAIN_TOO_LONG NOT_COLON NOT_STRUCTURED NAMELESS SHADOWED BAD_TEXT LONG_REPLY REFUSED",
+    start=0,
+)
 Stop = enum.IntEnum("Stop", "HALTED LIMIT ROOM TYPED BLOCK SPAN LINE RETURNED", start=0)
 Asks = enum.IntEnum("Asks", "NOTHING KEY LINE READ WRITE", start=0)
 
@@ -65,10 +67,7 @@ class Faults(ctypes.Structure):
 class Aside(ctypes.Structure):
     """Where a machine was when a word was called, as forth83_aside of forth83.h."""
 
-    _fields_ = (
-        [(name, _CELL) for name in ("ip", "has_pending", "pending", "asks", "asked", "token")]
-        + [("line", _CELL * 2), ("returns_top", _CELL), ("returns", _CELL * 257)]
-    )
+    _fields_ = [(name, _CELL) for name in ("ip", "has_pending", "pending", "asks", "asked", "token")] + [("line", _CELL * 2), ("returns_top", _CELL), ("returns", _CELL * 257)]
 
 
 class Record(ctypes.Structure):
@@ -158,8 +157,9 @@ class Forth:
     """A machine that an image was loaded into. A service is a function that an image calls by its number: it has the machine, and
     answers 0 or a fault."""
 
-    def __init__(self, image: bytes, blocks: Optional[Blocks] = None, services: Optional[Mapping[int, Callable[["Forth"], int]]] = None,
-                 library: str = f"libforth83.so.{ABI}") -> None:
+    def __init__(
+        self, image: bytes, blocks: Optional[Blocks] = None, services: Optional[Mapping[int, Callable[["Forth"], int]]] = None, library: str = f"libforth83.so.{ABI}"
+    ) -> None:
         self._library, self._services = _library(library), dict(services or {})
         self.record, self.blocks = Record(), blocks or MemoryBlocks(0)
         self._room = ctypes.create_string_buffer(ROOM)
