@@ -34,6 +34,11 @@ def joined(modules: Iterable[str]) -> str:
     return '"use strict";\n' + "\n".join(re.sub(r"^export |^ *//.*\n", "", text, flags=re.M) for text in modules)
 
 
+def unindented(script: str) -> str:
+    """A script of the page's own files without the blanks at the beginnings of lines: no text in them goes on in the next line."""
+    return re.sub(r"^ +", "", script, flags=re.M)
+
+
 def in_order(name: str, found: List[str]) -> List[str]:
     """The modules that a module imports, and then itself, each once."""
     for other in IMPORT.findall(text_of(name)):
@@ -84,7 +89,7 @@ def film_page(elements: str, scripts: Iterable[str], parts: Dict[str, str]) -> s
 
 def film(data: Dict[str, object], files: Dict[str, bytes], parts: Dict[str, str]) -> str:
     """The page of `./forth film` with its data. FILES are the machine as `wasm`, the `image` and the `blocks`; PARTS are TITLE and LINE, as HTML."""
-    code, player = bundle("filmed.js"), joined(map(text_of, FILM_SCRIPTS))
+    code, player = unindented(bundle("filmed.js")), unindented(joined(map(text_of, FILM_SCRIPTS)))
     elements = f'{all_packed(data, files)}\n<script type="text/plain" id="player">{player}</script>\n<script type="module">{code}</script>'
     return film_page(elements, (code, player), {"MADE": "", "DATA": "", **parts})
 
@@ -92,7 +97,9 @@ def film(data: Dict[str, object], files: Dict[str, bytes], parts: Dict[str, str]
 def page(data: Dict[str, object], files: Dict[str, bytes], facts: Dict[str, str], services: str = "") -> str:
     """The page with its data. FILES are the machine as `wasm`, and the `image`; FACTS are TITLE, VERSION, SHA256, PROVED, CLAIM and ROSE, as texts;
     SERVICES is a module of the page's own."""
-    script, player = bundle(services=services), joined(map(text_of, FILM_SCRIPTS))
+    script, player = bundle(services=services), unindented(joined(map(text_of, FILM_SCRIPTS)))
+    if not services:
+        script = unindented(script)
     values = {name: html.escape(text) for name, text in facts.items()}
     values["HELP"] = filled(text_of("help.html"), values)
     values["STYLE"] = text_of("page.css")

@@ -10,7 +10,12 @@ export function effectOf(machine, codeField) {
   const row = machine.cell(codeField);
   if (row === TABLE_ROWS.colon) return { does: "call", target: codeField + 2, codeField };
   if (row >= 256) return { does: "call", target: row, codeField };
-  return { does: row === TABLE_ROWS.exit || row === TABLE_ROWS.does ? "end" : row === TABLE_ROWS.clear ? "clear" : "other" };
+  return {
+    does: row === TABLE_ROWS.exit || row === TABLE_ROWS.does
+      ? "end"
+      : row === TABLE_ROWS.clear ? "clear"
+      : "other"
+  };
 }
 
 export class Calls {
@@ -29,14 +34,22 @@ export class Calls {
   // Applies to the calls what the step before did. A fault empties the return stack, and leaves its number.
   follow(step) {
     const { does } = this.last, { data, returns } = step;
-    if (!returns.length && data.length === 1 && this.frames[this.open[0]].base > 0 && does !== "end" && does !== "clear") this.leave(step, "faulted");
+    if (
+      !returns.length && data.length === 1 && this.frames[this.open[0]].base > 0 && does !== "end" && does !== "clear")
+      this.leave(step, "faulted");
     else if (does === "clear") this.leave(step, "left");
     else if (does === "end") this.end(step);
   }
 
   begin(step, noteCall) {
     const { open, last } = this, parent = open.length ? open[open.length - 1] : -1;
-    const frame = { parent, begins: step.ip, base: step.returns.length - 1, back: step.returns[step.returns.length - 1], codeField: last.codeField };
+    const frame = {
+      parent,
+      begins: step.ip,
+      base: step.returns.length - 1,
+      back: step.returns[step.returns.length - 1],
+      codeField: last.codeField
+    };
     this.frames.push(frame);
     open.push(this.frames.length - 1);
     noteCall(frame);

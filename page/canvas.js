@@ -1,4 +1,5 @@
-// The canvas that the words of the disk draw.blk draw on: 320 by 200 points of 16 colors, in 32 blocks; and their tones.
+// The canvas that the words of the disk draw.blk draw on: 320 by 200 points of 16 colors, in 32 blocks; and their
+// tones.
 
 import { DATA } from "./data.js";
 import { SYSTEM } from "./cells.js";
@@ -32,7 +33,8 @@ export class Canvas {
   look() {
     const first = this.first();
     this.play(first);
-    const { tab } = document.body.dataset, isSeen = tab === "canvas" || (tab === "course" && this.page.course.isDrawing);
+    const { tab } = document.body.dataset;
+    const isSeen = tab === "canvas" || (tab === "course" && this.page.course.isDrawing);
     if (!isSeen || this.isAsked) return;
     this.isAsked = true;
     requestAnimationFrame(() => {
@@ -45,7 +47,8 @@ export class Canvas {
   bytes(first) {
     const bytes = new Uint8Array(BLOCKS * PAGE_SIZE), { machine, disk } = this.session;
     bytes.set(disk.bytes.subarray(first * PAGE_SIZE, (first + BLOCKS) * PAGE_SIZE));
-    for (const { block, bytes: own } of machine.buffers) if (block !== null && block >= first && block < first + BLOCKS) bytes.set(own, (block - first) * PAGE_SIZE);
+    for (const { block, bytes: own } of machine.buffers)
+      if (block !== null && block >= first && block < first + BLOCKS) bytes.set(own, (block - first) * PAGE_SIZE);
     return bytes;
   }
 
@@ -73,17 +76,20 @@ export class Canvas {
   // If the count of tones is new, plays the last one. An empty canvas has the count 0.
   play(first) {
     if (first === null) return void (this.tones = null);
-    const block = first + BLOCKS - 1, page = this.session.page(block), cell = (at) => page[TONES + at] + 256 * page[TONES + at + 1];
+    const block = first + BLOCKS - 1, page = this.session.page(block);
+    const cell = (at) => page[TONES + at] + 256 * page[TONES + at + 1];
     const before = this.tones;
     this.tones = cell(0);
-    if (before !== null && before !== this.tones && this.tones !== 0) this.sound(cell(2), Math.min(MOST_SECONDS, cell(4) / 1000));
+    if (before !== null && before !== this.tones && this.tones !== 0)
+      this.sound(cell(2), Math.min(MOST_SECONDS, cell(4) / 1000));
   }
 
   sound(hertz, seconds) {
     const Audio = window.AudioContext || window.webkitAudioContext;
     if (!Audio) return;
     this.audio = this.audio || new Audio();
-    const from = Math.max(this.audio.currentTime, this.until || 0), tone = this.audio.createOscillator(), volume = this.audio.createGain();
+    const from = Math.max(this.audio.currentTime, this.until || 0), tone = this.audio.createOscillator();
+    const volume = this.audio.createGain();
     this.until = from + seconds;
     tone.frequency.value = hertz;
     volume.gain.value = 0.1;

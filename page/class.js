@@ -80,7 +80,11 @@ export class ClassList {
     }
     row.append(...results.map(({ number, mark, text }) => {
       const cell = element("td", undefined, { class: mark, title: text });
-      cell.append(element("button", SIGNS[mark], { type: "button", "aria-label": `${name}, lesson ${number}: ${mark}`, "data-message": `${name}, lesson ${number}, ${mark}: ${text}` }));
+      cell.append(element("button", SIGNS[mark], {
+        type: "button",
+        "aria-label": `${name}, lesson ${number}: ${mark}`,
+        "data-message": `${name}, lesson ${number}, ${mark}: ${text}`
+      }));
       return cell;
     }));
     const count = (wanted) => results.filter(({ mark }) => mark === wanted).length;
@@ -94,17 +98,24 @@ export class ClassList {
   }
 
   csv() {
-    const quoted = (text) => `"${text.replace(/"/g, '""')}"`, head = ["file", ...this.taught.map(({ number }) => `lesson ${number}`), "right", "checked", "messages"];
-    const lines = this.rows.map(({ name, results = [], when }) => [name, ...results.map(({ mark, word }) => (word ? `${mark} ${word}` : mark)),
-      String(results.filter(({ mark }) => mark === "right").length), when, results.filter(({ mark }) => !["right", "empty"].includes(mark))
-        .map(({ number, text }) => `${number} ${text}`).join(" / ")]);
+    const quoted = (text) => `"${text.replace(/"/g, '""')}"`;
+    const head = ["file", ...this.taught.map(({ number }) => `lesson ${number}`), "right", "checked", "messages"];
+    const lines = this.rows.map(
+      ({ name, results = [], when }) =>
+        [name, ...results.map(({ mark, word }) => (word ? `${mark} ${word}` : mark)),
+         String(results.filter(({ mark }) => mark === "right").length), when,
+         results.filter(({ mark }) => !["right", "empty"].includes(mark))
+           .map(({ number, text }) => `${number} ${text}`)
+           .join(" / ")]);
     return [head, ...lines].map((line) => line.map(quoted).join(",") + "\r\n").join("");
   }
 }
 
-// The blocks of a pupil's file: blocks, a text of screens or a session that a page saved; null for another file. COUNT is how many a text has.
+// The blocks of a pupil's file: blocks, a text of screens or a session that a page saved; null for another file. COUNT
+// is how many a text has.
 function blocksOfFile(bytes, count) {
-  const text = decode(bytes), isText = isScreens(text) && !screensOf(text).wrong, blocks = isText ? diskOfText("", count, text).bytes : diskOfSession(text) || bytes;
+  const text = decode(bytes), isText = isScreens(text) && !screensOf(text).wrong;
+  const blocks = isText ? diskOfText("", count, text).bytes : diskOfSession(text) || bytes;
   return blocks.length && blocks.length % PAGE_SIZE === 0 ? blocks : null;
 }
 

@@ -12,6 +12,7 @@ ROOT = pathlib.Path(__file__).resolve().parent.parent
 sys.path[:0] = [str(ROOT / "teaching"), str(ROOT / "commands")]
 
 import canvas  # noqa: E402
+import course_lessons  # noqa: E402
 import glossary  # noqa: E402
 import judged  # noqa: E402
 import rows as numbers  # noqa: E402
@@ -24,16 +25,8 @@ CHAPTERS_LEFT_OUT = (
 SCREENS, PAGE = 64, 1024
 EXAMPLES = ("kiln", "life", "gold", "sieve")
 OF_FAULTS = ("own", "large", "unknown", "unquoted", "follows", "quit")  # what the judging of lessons takes, and the session
-KERNEL, COURSE, FIRST = "forth.blk", "course.blk", 20
+KERNEL, COURSE = "forth.blk", "course.blk"
 TICKS = judged.TICKS  # of one lesson
-
-
-def inline(text: str) -> str:
-    """A paragraph as HTML: code, strong text, and of links their words."""
-    text = html.escape(text, quote=False)
-    text = re.sub(r"`([^`]+)`", r"<code>\1</code>", text)
-    text = re.sub(r"\[([^]]+)\]\([^)]*\)", r"\1", text)
-    return re.sub(r"\*\*([^*]+)\*\*", r"<strong>\1</strong>", text)
 
 
 def button(attribute: str, value: str, text: str) -> str:
@@ -53,10 +46,10 @@ def typed(line: str) -> Optional[str]:
     return button("line", line[2:], line[2:])
 
 
-def session(lines: List[str]) -> str:
+def session(text: str) -> str:
     """A session of the course: what is typed as buttons, and what the Forth shows below each."""
     made, is_shown = [], True
-    for line in lines:
+    for line in text.split("\n"):
         if line.startswith(("> ", "$ ")):
             one = typed(line)
             is_shown = one is not None and line.startswith("> ") and not WRITING.match(line)
@@ -91,12 +84,6 @@ def disk_of_lesson(body: str) -> str:
     return found[1] if found else COURSE
 
 
-def hints(text: str) -> Dict[int, List[str]]:
-    """The hints of each lesson, as screens/course/hints.txt has them."""
-    parts = re.findall(r"^% lesson (\d+)\n((?:(?!% ).*\n)*)", text, re.M)
-    return {int(number): body.splitlines() for number, body in parts}
-
-
 def folded(lines: List[str]) -> str:
     """Hints as HTML, folded until someone wants them."""
     rows = "".join(f"<li>{html.escape(line, quote=False)}</li>" for line in lines)
@@ -107,25 +94,28 @@ def lessons(text: str, helping: Dict[int, List[str]], before: str = "") -> List[
     """The course's lessons: of each its number, title, HTML with its hints, and disk, and the pupil's screen, or None for one that
     nothing checks. BEFORE comes before lesson 1."""
     made = []
-    for part in re.split(r"^## ", text, flags=re.M)[1:]:
-        title, _, body = part.partition("\n")
-        number = int(title.partition(".")[0])
+    for number, title, body in course_lessons.pages(text):
         disk = disk_of_lesson(body)
-        made.append({"number": number, "title": title, "disk": disk, "screen": FIRST + number if disk == COURSE else None,
-                     "html": (before if number == 1 else "") + f"<h2>{inline(title)}</h2>" + body_of_lesson(body) + folded(helping.get(number, []))})
+        made.append(
+            {
+                "number": number,
+                "title": title,
+                "disk": disk,
+                "screen": course_lessons.FIRST + number if disk == COURSE else None,
+                "html": (before if number == 1 else "") + f"<h2>{course_lessons.inline(title)}</h2>" + body_of_lesson(body) + folded(helping.get(number, [])),
+            }
+        )
     return made
+
+
+def course() -> List[Dict[str, object]]:
+    """The lessons of the course, with their hints."""
+    return lessons(text_of("docs/COURSE.md"), {it.number: it.hints for it in course_lessons.read()}, text_of("page/course.html"))
 
 
 def body_of_lesson(body: str) -> str:
     """A lesson's paragraphs and sessions as HTML."""
-    pieces = []
-    for at, piece in enumerate(re.split(r"^```\n", body, flags=re.M)):
-        if at % 2:
-            pieces.append(session(piece.rstrip("\n").split("\n")))
-        else:
-            paragraphs = (for_page(one) for one in re.split(r"\n\s*\n", piece) if one.strip())
-            pieces += [f"<p>{inline(' '.join(one.split()))}</p>" for one in paragraphs if one.strip()]
-    return "".join(pieces).replace("</pre><pre>", "\n")
+    return course_lessons.html_of(body, session, for_page).replace("</pre><pre>", "\n")
 
 
 def manual() -> List[List[str]]:
@@ -134,7 +124,7 @@ def manual() -> List[List[str]]:
     for word in glossary.read():
         chapter = word.section.partition(". ")[2].partition(":")[0]
         if word.part != glossary.INNER and not chapter.startswith(CHAPTERS_LEFT_OUT):
-            made[word.name] = [word.name, word.effect, chapter, inline(word.row().split(" | ", 3)[3][:-2])]
+            made[word.name] = [word.name, word.effect, chapter, course_lessons.inline(word.row().split(" | ", 3)[3][:-2])]
     return list(made.values())
 
 
@@ -219,5 +209,4 @@ FORMAT = re.compile(r"^\| (`[a-z0-9`, -]+`) \| ([^|]+) \| [\d,]* ?\| [\d,]* ?\| 
 
 def formats(page: str) -> List[Dict[str, object]]:
     """The formats of containers, as docs/OLD-SOURCES.md has them: names, and what each is."""
-    return [{"name": name, "what": re.sub(r"[`*]", "", what.partition(";")[0])}
-            for names, what in FORMAT.findall(page) for name in re.findall(r"`([^`]+)`", names)]
+    return [{"name": name, "what": re.sub(r"[`*]", "", what.partition(";")[0])} for names, what in FORMAT.findall(page) for name in re.findall(r"`([^`]+)`", names)]

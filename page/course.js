@@ -1,4 +1,5 @@
-// The course: its lessons, whose lines are typed by a click, and CHECK; and the lessons of a disk that has its own in the same form.
+// The course: its lessons, whose lines are typed by a click, and CHECK; and the lessons of a disk that has its own in
+// the same form.
 
 import { escapeHtml, withoutOk } from "./bytes.js";
 import { DATA } from "./data.js";
@@ -52,7 +53,8 @@ export class Course {
     const { page } = this;
     if (page.work.name || (await page.work.setting("named"))) return;
     page.work.set("named", true);
-    const name = await page.files.askForName("Your name? Your work is kept under it, and files that you save begin with it. You may leave this empty.", "");
+    const name = await page.files.askForName(
+      "Your name? Your work is kept under it, and files that you save begin with it. You may leave this empty.", "");
     if (name) await page.changeWork(name);
   }
 
@@ -79,11 +81,13 @@ export class Course {
     } else this.page.send(`${this.lesson.number} CHECK`);
   }
 
-  // Restores changed checkers, in the screens before the first lesson's and 20 after each lesson's; returns whether there were any.
+  // Restores changed checkers, in the screens before the first lesson's and 20 after each lesson's; returns whether
+  // there were any.
   restore() {
     const { session } = this.page, { disk } = session;
     if (!DATA.disks[disk.name]) return false;
-    const own = builtIn(disk.name), pupils = lessonsOf(session.machine, own).map((lesson) => lesson.screen), changed = [];
+    const own = builtIn(disk.name), pupils = lessonsOf(session.machine, own).map((lesson) => lesson.screen);
+    const changed = [];
     for (let block = 1; block < Math.min(own.count, disk.count); block++) {
       const text = linesOf(own.page(block)).join("\n");
       const isChecker = block < Math.min(...pupils) || (pupils.includes(block - CHECKERS) && !pupils.includes(block));
@@ -111,7 +115,8 @@ export class Course {
     disk.textContent = this.isIn ? "Load the lessons: 1 LOAD" : `Put in ${this.lesson.disk}`;
     check.hidden = !this.lesson.screen;
     this.page.placeDesk();
-    if (this.isOpen && before !== this.lesson && document.body.dataset.tab === "course") this.page.editor.go(this.lesson.screen);
+    if (this.isOpen && before !== this.lesson && document.body.dataset.tab === "course")
+      this.page.editor.go(this.lesson.screen);
   }
 
   choose(at) {
@@ -123,15 +128,17 @@ export class Course {
   find(title) { this.go(this.lessons.findIndex((lesson) => lesson.title === title)); }
 }
 
-// The lessons that a disk has in its screens, in the order of their numbers, and what to do: the comments below a title. The library finds them as it
-// judges a pupil who has written nothing.
+// The lessons that a disk has in its screens, in the order of their numbers, and what to do: the comments below a
+// title. The library finds them as it judges a pupil who has written nothing.
 export function lessonsOf(machine, disk) {
   const bytes = disk.bytes.subarray(0, MOST_OF_DISK);
   return [...machine.judge([DATA.image, new Uint8Array(0), bytes, bytes], 0)].map((lesson) => {
     const { number, screen } = lesson, lines = linesOf(disk.page(screen)), title = `${number}. ${lesson.title}`;
-    const end = lines.findIndex((line, at) => at > 0 && !TASK.test(line)), tasks = lines.slice(1, end < 0 ? lines.length : end);
+    const end = lines.findIndex((line, at) => at > 0 && !TASK.test(line));
+    const tasks = lines.slice(1, end < 0 ? lines.length : end);
     const rows = tasks.map((line) => `<li>${escapeHtml(TASK.exec(line)[1])}</li>`).join("");
-    const html = `<h2>${escapeHtml(title)}</h2><ul>${rows}</ul><p>Your screen is ${screen}. Write into it, and then choose CHECK.</p>`;
+    const html = `<h2>${escapeHtml(title)}</h2><ul>${rows}</ul>` +
+      `<p>Your screen is ${screen}. Write into it, and then choose CHECK.</p>`;
     return { number, title: `${title} (${disk.name})`, html, disk: disk.name, screen, isOwn: true };
   });
 }

@@ -1,4 +1,5 @@
-// The editor of screens: sixteen lines of 64 characters, kept as they are typed; the index of the screens, their order, and a search.
+// The editor of screens: sixteen lines of 64 characters, kept as they are typed; the index of the screens, their
+// order, and a search.
 
 import { element } from "./bytes.js";
 import { piecesOf } from "./colors.js";
@@ -23,19 +24,38 @@ export class Editor {
     text.addEventListener("keydown", (event) => this.press(event));
     text.addEventListener("scroll", () => (mark.scrollLeft = parts.colors.scrollLeft = text.scrollLeft));
     number.addEventListener("change", () => this.go(Number(number.value)));
-    const acts = { back: () => this.go(this.block - 1), on: () => this.go(this.block + 1), shadow: () => this.go(this.shadowed()), load: () => this.load(), copy: () => this.copy(),
-      paste: () => this.paste(), insert: () => this.insert(), earlier: () => this.move(this.block - 1), later: () => this.move(this.block + 1), move: () => this.askWhere(),
-      next: () => this.next(), replace: () => this.replace(), all: () => this.replaceAll() };
+    const acts = {
+      back: () => this.go(this.block - 1),
+      on: () => this.go(this.block + 1),
+      shadow: () => this.go(this.shadowed()),
+      load: () => this.load(),
+      copy: () => this.copy(),
+      paste: () => this.paste(),
+      insert: () => this.insert(),
+      earlier: () => this.move(this.block - 1),
+      later: () => this.move(this.block + 1),
+      move: () => this.askWhere(),
+      next: () => this.next(),
+      replace: () => this.replace(),
+      all: () => this.replaceAll()
+    };
     for (const [name, act] of Object.entries(acts)) parts[name].addEventListener("click", act);
     index.addEventListener("change", () => this.go(Number(index.value)));
     for (const name of ["find", "whole"]) parts[name].addEventListener("input", () => this.seek());
-    for (const [name, act] of [["find", acts.next], ["instead", acts.replace]]) parts[name].addEventListener("keydown", (event) => event.key === "Enter" && act());
+    for (const [name, act] of [["find", acts.next], ["instead", acts.replace]])
+      parts[name].addEventListener("keydown", (event) => event.key === "Enter" && act());
     parts.found.addEventListener("click", (event) => this.goTo(event.target.closest("button")));
   }
 
   press(event) {
-    const keys = { PageUp: () => this.go(this.block - 1), PageDown: () => this.go(this.block + 1), F3: () => this.next() }, isControl = event.ctrlKey || event.metaKey;
-    const isUndo = isControl && event.key.toLowerCase() === "z", isRedo = event.ctrlKey && event.key === "y", change = isControl && event.shiftKey && CHANGES[event.key.toLowerCase()];
+    const keys = {
+      PageUp: () => this.go(this.block - 1),
+      PageDown: () => this.go(this.block + 1),
+      F3: () => this.next()
+    };
+    const isControl = event.ctrlKey || event.metaKey;
+    const isUndo = isControl && event.key.toLowerCase() === "z", isRedo = event.ctrlKey && event.key === "y";
+    const change = isControl && event.shiftKey && CHANGES[event.key.toLowerCase()];
     if (event.ctrlKey && event.key === "Enter") this.load();
     else if (change) this.changeLine(change);
     else if (isUndo || isRedo) this.back(isRedo || event.shiftKey);
@@ -46,7 +66,8 @@ export class Editor {
 
   // The screen beside this one: as far away as SHADOW says, or else half of the disk.
   shadowed() {
-    const { machine, places, disk, isForeign } = this.session, far = (isForeign ? 0 : machine.cell(places.shadow)) || Math.floor(disk.count / 2);
+    const { machine, places, disk, isForeign } = this.session;
+    const far = (isForeign ? 0 : machine.cell(places.shadow)) || Math.floor(disk.count / 2);
     return this.block < far ? this.block + far : this.block - far;
   }
 
@@ -60,7 +81,8 @@ export class Editor {
   // Takes back what was typed last into this screen, or brings it again.
   back(isAgain) {
     const { work } = this.session, list = isAgain ? work.redos : work.undos, last = list[list.length - 1];
-    if (!last || !(last.what === PLACED || last.what.startsWith(`screen ${this.block} `))) return this.say(`There is nothing more to ${isAgain ? "bring back" : "take back"} in this screen.`);
+    if (!last || !(last.what === PLACED || last.what.startsWith(`screen ${this.block} `)))
+      return this.say(`There is nothing more to ${isAgain ? "bring back" : "take back"} in this screen.`);
     if (isAgain) work.redo();
     else work.undo();
   }
@@ -82,7 +104,8 @@ export class Editor {
   refresh(isOther) {
     const { text } = this.parts, { work, disk } = this.session;
     if (this.block >= disk.count) return this.go(0);
-    const page = this.session.page(this.block), draft = work.draft(this.block), shown = work.lines(this.block).join("\n");
+    const page = this.session.page(this.block), draft = work.draft(this.block);
+    const shown = work.lines(this.block).join("\n");
     this.written = draft ? draft.before : linesOf(page);
     this.wrong = draft ? pageOf(draft.text.split("\n"), page) : null;
     text.readOnly = !work.isOurs || isData(page);
@@ -96,7 +119,9 @@ export class Editor {
     const { text } = this.parts, before = text.value, isIn = document.activeElement === text, end = text.selectionStart;
     let front = 0, rear = 0;
     while (front < shown.length && shown[front] === before[front]) front++;
-    while (rear < Math.min(shown.length, before.length) - front && shown[shown.length - 1 - rear] === before[before.length - 1 - rear]) rear++;
+    while (rear < Math.min(shown.length, before.length) - front &&
+           shown[shown.length - 1 - rear] === before[before.length - 1 - rear])
+      rear++;
     text.value = shown;
     const at = isIn && Math.abs(before.length - shown.length) < 64 ? shown.length - rear : Math.min(end, shown.length);
     text.setSelectionRange(at, at);
@@ -118,7 +143,12 @@ export class Editor {
   // Says what is wrong with the text in the frame.
   report() {
     const isPicture = isData(this.session.page(this.block));
-    this.say(this.wrong ? `Not on the disk yet, but kept as a draft: ${this.wrong.wrong}.` : isPicture ? "This block is a picture or other data, not text: it is only shown." : "", Boolean(this.wrong));
+    this.say(
+      this.wrong
+        ? `Not on the disk yet, but kept as a draft: ${this.wrong.wrong}.`
+        : isPicture ? "This block is a picture or other data, not text: it is only shown."
+        : "",
+      Boolean(this.wrong));
   }
 
   // Copies the screen, to be put onto another one, of this disk or of another.
@@ -140,18 +170,24 @@ export class Editor {
     const from = this.session.work.blankFrom(this.block);
     if (from === null) return this.say(`The disk has ${MOST_SCREENS} screens, and no blank one after this.`);
     if (from === this.block) return this.say(`Screen ${from} is blank already.`);
-    if (this.arrange(from, this.block)) this.say(`Screen ${this.block} is blank now, and ${from === this.block + 1 ? `screen ${this.block} became ${from}` : `screens ${this.block} to ${from - 1} became ${this.block + 1} to ${from}`}. ${NUMBERS}`);
+    const moved = from === this.block + 1
+      ? `screen ${this.block} became ${from}`
+      : `screens ${this.block} to ${from - 1} became ${this.block + 1} to ${from}`;
+    if (this.arrange(from, this.block)) this.say(`Screen ${this.block} is blank now, and ${moved}. ${NUMBERS}`);
   }
 
   // Moves this screen to another number.
   move(to) {
     const from = this.block, last = this.session.disk.count - 1;
-    if (!Number.isInteger(to) || to < 0 || to > last) return this.say(`Screens of this disk have numbers from 0 to ${last}.`);
+    if (!Number.isInteger(to) || to < 0 || to > last)
+      return this.say(`Screens of this disk have numbers from 0 to ${last}.`);
     if (to !== from && this.arrange(from, to)) this.say(`Screen ${from} is ${to} now. ${NUMBERS}`);
   }
 
   async askWhere() {
-    const answer = await this.session.view.ask(`Move screen ${this.block} to which number? The screens between make room.`, ["Move it"], { given: String(this.block) });
+    const answer = await this.session.view.ask(
+      `Move screen ${this.block} to which number? The screens between make room.`, ["Move it"],
+      { given: String(this.block) });
     if (answer !== null) this.move(answer.trim() ? Number(answer) : NaN);
   }
 
@@ -164,7 +200,8 @@ export class Editor {
 
   // Changes the line at the cursor; the cursor stays in its column.
   changeLine(change) {
-    const { text } = this.parts, before = text.value.slice(0, text.selectionStart).split("\n"), line = before.length - 1, lines = text.value.split("\n");
+    const { text } = this.parts, before = text.value.slice(0, text.selectionStart).split("\n");
+    const line = before.length - 1, lines = text.value.split("\n");
     if (text.readOnly) return;
     lines.splice(line, 1, ...change(lines[line]));
     text.value = lines.join("\n");
@@ -204,16 +241,22 @@ export class Editor {
     const { gutter, text, mark, colors } = this.parts, { marked, found } = this;
     const at = marked && marked !== found ? marked.line : this.wrong ? this.wrong.line : -1;
     for (const [line, span] of [...gutter.children].entries()) span.classList.toggle("at-fault", line === at);
-    if (marked) mark.replaceChildren("\n".repeat(marked.line) + " ".repeat(marked.column), element("mark", marked.text || " "));
+    if (marked)
+      mark.replaceChildren("\n".repeat(marked.line) + " ".repeat(marked.column), element("mark", marked.text || " "));
     mark.hidden = !marked;
     mark.scrollLeft = text.scrollLeft;
-    if (colors.textContent !== text.value + "\n") colors.replaceChildren(...piecesOf(text.value).map(([kind, piece]) => (kind ? element("span", piece, { class: kind }) : piece)), "\n");
+    if (colors.textContent !== text.value + "\n")
+      colors.replaceChildren(
+        ...piecesOf(text.value).map(([kind, piece]) => (kind ? element("span", piece, { class: kind }) : piece)),
+        "\n");
   }
 
   // The first line of each screen that has one; of a big disk only of those around this screen.
   list() {
-    const { index } = this.parts, { disk, machine } = this.session, titles = [], from = Math.max(0, this.block - MOST_LISTED), to = Math.min(disk.count, from + 2 * MOST_LISTED);
-    const changed = new Map(machine.buffers.map((buffer) => [buffer.block, buffer.bytes])), width = String(disk.count - 1).length;
+    const { index } = this.parts, { disk, machine } = this.session, titles = [];
+    const from = Math.max(0, this.block - MOST_LISTED), to = Math.min(disk.count, from + 2 * MOST_LISTED);
+    const changed = new Map(machine.buffers.map((buffer) => [buffer.block, buffer.bytes]));
+    const width = String(disk.count - 1).length;
     for (let block = from; block < to; block++) {
       const title = changed.has(block) ? lineOf(changed.get(block).subarray(0, COLUMNS)) : disk.title(block);
       if (title || block === this.block) titles.push(`${String(block).padStart(width)}  ${title}`);
@@ -231,7 +274,8 @@ export class Editor {
   // The lines of a screen, as the frame would show them; none if it can't have the text.
   linesWith({ text }) {
     const sought = text.toUpperCase(), isPlain = /^[ -~]*$/.test(text), { session } = this, { work } = session;
-    const canHave = (page) => !isPlain || String.fromCharCode(...page).replace(/\0/g, " ").toUpperCase().includes(sought);
+    const canHave = (page) => !isPlain ||
+      String.fromCharCode(...page).replace(/\0/g, " ").toUpperCase().includes(sought);
     return (block) => (work.draft(block) || canHave(session.page(block)) ? work.lines(block) : []);
   }
 
@@ -270,7 +314,8 @@ export class Editor {
 
   // Goes to the next place after the cursor, around the disk.
   next() {
-    const { text, find } = this.parts, lines = text.value.slice(0, text.selectionEnd).split("\n"), here = [lines.length - 1, lines[lines.length - 1].length];
+    const { text, find } = this.parts, lines = text.value.slice(0, text.selectionEnd).split("\n");
+    const here = [lines.length - 1, lines[lines.length - 1].length];
     if (!this.wanted.text) return find.focus();
     let first = null;
     for (const { block, line, columns } of this.places(this.block))
@@ -285,7 +330,8 @@ export class Editor {
 
   // Replaces the place that was found, and goes to the next.
   replace() {
-    const { text, instead } = this.parts, isAt = this.found && text.value.slice(text.selectionStart, text.selectionEnd) === this.found.text;
+    const { text, instead } = this.parts;
+    const isAt = this.found && text.value.slice(text.selectionStart, text.selectionEnd) === this.found.text;
     if (isAt && text.readOnly) return this.report();
     if (isAt) {
       text.setRangeText(instead.value, text.selectionStart, text.selectionEnd, "end");
@@ -308,15 +354,24 @@ export class Editor {
         stay.push(...made.full.map((line) => `line ${line} of screen ${block} has no room`));
       }
     }
-    return { pages, count, others: stay.length ? ` Not replaced: ${stay.slice(0, 6).join(", ")}${stay.length > 6 ? `, and ${stay.length - 6} more` : ""}.` : "" };
+    return {
+      pages,
+      count,
+      others: stay.length
+        ? ` Not replaced: ${stay.slice(0, 6).join(", ")}${stay.length > 6 ? `, and ${stay.length - 6} more` : ""}.`
+        : ""
+    };
   }
 
   // Replaces it in all screens of the disk that have room for it, if a person wants that.
   async replaceAll() {
-    const { work, view } = this.session, instead = this.parts.instead.value, { pages, count, others } = this.replacement();
+    const { work, view } = this.session, instead = this.parts.instead.value;
+    const { pages, count, others } = this.replacement();
     if (!count) return this.say(others.trim() || "No screen has this text.");
-    const places = `${count} ${count === 1 ? "place" : "places"} in ${pages.size} ${pages.size === 1 ? "screen" : "screens"} of ${work.disk.name}`;
-    if (!(await view.ask(`Replace ${this.wanted.text} by ${instead || "nothing"}: ${places}?${others}`, ["Replace all"]))) return;
+    const counted = (number, one) => `${number} ${one}${number === 1 ? "" : "s"}`;
+    const places = `${counted(count, "place")} in ${counted(pages.size, "screen")} of ${work.disk.name}`;
+    const question = `Replace ${this.wanted.text} by ${instead || "nothing"}: ${places}?${others}`;
+    if (!(await view.ask(question, ["Replace all"]))) return;
     // A program may have changed screens meanwhile.
     if (!work.place(this.replacement().pages)) return;
     this.go(this.block);

@@ -3,7 +3,11 @@
 import { MACHINE_FAULTS } from "./cells.js";
 import { COLUMNS } from "./disk.js";
 
-export const FAULTS = { unknown: MACHINE_FAULTS.notFound, missing: MACHINE_FAULTS.badLength, said: MACHINE_FAULTS.aborted };
+export const FAULTS = {
+  unknown: MACHINE_FAULTS.notFound,
+  missing: MACHINE_FAULTS.badLength,
+  said: MACHINE_FAULTS.aborted
+};
 const WIDEST_MARKED = 100, LAST = 1023, BLANK_CODE = 32;
 const SPACES = /(?! )[\p{C}\p{Z}]/gu;
 
@@ -28,7 +32,8 @@ export function nextWord(text, from) {
   return [start, end < 0 ? text.length : end];
 }
 
-// Where the word is that a fault is about, in what was interpreted: the one before >IN; for an unknown name, which isn't taken yet, the one after.
+// Where the word is that a fault is about, in what was interpreted: the one before >IN; for an unknown name, which
+// isn't taken yet, the one after.
 export function faultWord(fault, { text, offset }) {
   const before = trimmedEnd(text.subarray(0, offset));
   if (fault === FAULTS.unknown || !before.length) return nextWord(text, offset);
@@ -38,16 +43,24 @@ export function faultWord(fault, { text, offset }) {
 // A line with a mark below a byte; of a long one the part around it.
 export function marked(text, at) {
   const start = text.length <= WIDEST_MARKED ? 0 : Math.max(at - WIDEST_MARKED / 2, 0);
-  return [plain(trimmedEnd(text.subarray(start, start + WIDEST_MARKED))), `${" ".repeat(columns(text.subarray(start, at)))}^`];
+  return [
+    plain(trimmedEnd(text.subarray(start, start + WIDEST_MARKED))), `${" ".repeat(columns(text.subarray(start, at)))}^`
+  ];
 }
 
 // The line of a screen that has a byte.
 export const lineAt = (at) => Math.floor(Math.min(at, LAST) / COLUMNS);
 
-// Where a fault happened: the line, with a mark below byte AT of what was interpreted. line: the line of a text that this is, or none.
+// Where a fault happened: the line, with a mark below byte AT of what was interpreted. line: the line of a text that
+// this is, or none.
 export function placeLines({ block, text }, line, at, hasColumn = true) {
   if (line) {
-    const column = columns(text.subarray(0, at)) + 1, where = !hasColumn ? "" : line.name ? `:${column}` : line.text.length > WIDEST_MARKED ? `, column ${column}` : "";
+    const column = columns(text.subarray(0, at)) + 1;
+    const where = !hasColumn
+      ? ""
+      : line.name ? `:${column}`
+      : line.text.length > WIDEST_MARKED ? `, column ${column}`
+      : "";
     return [named(line) + where, ...marked(line.text, at)];
   }
   if (!block) return [];

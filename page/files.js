@@ -8,7 +8,8 @@ import { by } from "./parts.js";
 import { isScreens, screensOf } from "./screens.js";
 import { sessionOf } from "./work.js";
 
-const IMAGE = "FTH83IMG", SESSION = '{"format":"forth83"', MOST_TEXT = 200000, MOST_LINE = 127, SOURCE = /\.(f|fs|fth|4th|fr)$/i;
+const IMAGE = "FTH83IMG", SESSION = '{"format":"forth83"', MOST_TEXT = 200000, MOST_LINE = 127;
+const SOURCE = /\.(f|fs|fth|4th|fr)$/i;
 
 // Whether a file is blocks, and not the image of a disk of another system, which may have whole blocks too.
 const isBlocks = (name, bytes, machine) =>
@@ -18,7 +19,8 @@ const linesOfText = (text) => text.replace(/\r\n?/g, "\n").replace(/\n$/, "").sp
 
 // Whether a text is lines for the Forth, and not a listing or the like, by the length of its lines, or by its name.
 function isTyped(name, bytes, text, machine) {
-  const isText = bytes.length > 0 && bytes.length < MOST_TEXT && !text.includes("\0") && machine.guess(bytes) === "blocks";
+  const isText = bytes.length > 0 && bytes.length < MOST_TEXT && !text.includes("\0") &&
+    machine.guess(bytes) === "blocks";
   return isText && (SOURCE.test(name) || linesOfText(text).every((line) => encode(line).length <= MOST_LINE));
 }
 
@@ -86,21 +88,24 @@ export class Files {
   // Neither blocks nor a text for the Forth: it may be a disk of another system, or a listing.
   openOldDisk(name, bytes) {
     if (!bytes.length) return this.page.note(`${name} is empty.`);
-    this.page.note(`${name} looks like an old disk or a listing. Disks shows it; choose its format there, and put it in.`);
+    this.page.note(
+      `${name} looks like an old disk or a listing. Disks shows it; choose its format there, and put it in.`);
     this.page.tab("disk");
     this.page.oldDisk.open(name, bytes);
   }
 
   // Runs the program of an image.
   runImage(name, image) {
-    if (!this.work.isOurs || !this.session.runImage(name, image)) return this.page.note(`${name} is an image that this machine can't run: it is damaged, or not complete.`);
+      if (!this.work.isOurs || !this.session.runImage(name, image))
+        return this.page.note(`${name} is an image that this machine can't run: it is damaged, or not complete.`);
     this.page.tab("forth", true);
     by("line").focus();
   }
 
   // Saves an image of the Forth with your words.
   async saveImage() {
-    const name = await this.askForName("Which word does the program start with? Leave this empty for the Forth itself.", "");
+      const name = await this.askForName(
+        "Which word does the program start with? Leave this empty for the Forth itself.", "");
     if (name === null) return;
     const made = this.session.saved(name);
     if (made.wrong) this.page.note(`No image was saved: ${made.wrong}.`);
@@ -127,11 +132,14 @@ export class Files {
     const read = screensOf(text);
     if (read.wrong) return this.page.note(`${name}: ${read.wrong}.`);
     if (!(await this.work.merge(name, read.screens))) return;
-    this.page.note(`${name}: ${read.screens.length} ${read.screens.length === 1 ? "screen is" : "screens are"} on the disk now.`);
+    this.page.note(
+      `${name}: ${read.screens.length} ${read.screens.length === 1 ? "screen is" : "screens are"} on the disk now.`);
   }
 
   async newDisk() {
-    const { work } = this, name = await this.askForName("Name of the new disk of 64 screens:", work.disks.has("my.blk") ? work.freeName("my.blk") : "my.blk");
+    const { work } = this;
+    const name = await this.askForName(
+      "Name of the new disk of 64 screens:", work.disks.has("my.blk") ? work.freeName("my.blk") : "my.blk");
     if (name) await work.insert(name, Disk.blank(name, 64).bytes);
   }
 
@@ -145,7 +153,8 @@ export class Files {
   // Removes a disk of the user's; restores one of the page's own.
   async removeDisk() {
     const { name } = this.work.disk, isOwn = Boolean(DATA.disks[name]);
-    const question = isOwn ? `Put ${name} back as the page brings it? Your changes to its screens will be gone; Undo brings them back.`
+    const question = isOwn
+      ? `Put ${name} back as the page brings it? Your changes to its screens will be gone; Undo brings them back.`
       : `Remove ${name} from this browser? Undo brings it back.`;
     if (await this.page.ask(question, [isOwn ? "Put it back" : "Remove it"])) await this.work.remove();
   }
@@ -161,7 +170,8 @@ export class Files {
   }
 
   saveBlob(ending, blob, name) {
-    const link = document.createElement("a"), stem = name ? asFileName(name) : this.session.disk.name.replace(/\.(blk|txt)$/i, "");
+    const link = document.createElement("a");
+    const stem = name ? asFileName(name) : this.session.disk.name.replace(/\.(blk|txt)$/i, "");
     link.href = URL.createObjectURL(blob);
     link.download = `${this.work.name ? `${this.work.name} ` : ""}${stem}.${ending}`;
     link.click();

@@ -1,4 +1,5 @@
-// The tab with the film of a line: each step of your words, on a copy of the machine and of the disk. It is shown by the page of `./forth film`, whole, in a frame.
+// The tab with the film of a line: each step of your words, on a copy of the machine and of the disk. It is shown by
+// the page of `./forth film`, whole, in a frame.
 
 import { Book, MADE } from "./book.js";
 import { decode, escapeHtml } from "./bytes.js";
@@ -21,19 +22,24 @@ export class Film {
       this.isShown = Boolean(this.data);
     });
     parts.full.hidden = !document.fullscreenEnabled;
-    parts.full.addEventListener("click", () => parts.frame.requestFullscreen().then(() => parts.frame.contentWindow.focus()));
+    parts.full.addEventListener(
+      "click", () => parts.frame.requestFullscreen().then(() => parts.frame.contentWindow.focus()));
   }
 
   // Types the line at the copy, tick by tick, and shows the film.
   async make(line, record = this.session.machine.copy()) {
     if (!this.session.waitsForLine) return this.say("The Forth is busy. Make the film when it waits for a line.");
-    if (this.session.isForeign) return this.say(`${this.session.program} runs, and films are of the Forth's words. End it first.`);
+    if (this.session.isForeign)
+      return this.say(`${this.session.program} runs, and films are of the Forth's words. End it first.`);
     const film = new Filming(this.machine, this.session, line, record);
     this.isShown = false;
     await film.make(() => {});
-    const { steps, frames } = film.calls, none = `This line runs no word of yours${film.why}. A film shows the steps of your own words, and of what they call.`;
+    const { steps, frames } = film.calls;
+    const none = `This line runs no word of yours${film.why}. A film shows the steps of your own words, ` +
+      "and of what they call.";
+    const calls = `${frames.length} ${frames.length === 1 ? "call" : "calls"}`;
     this.data = steps.length ? new Book(film, this.session).data() : null;
-    this.say(steps.length ? `${steps.length} steps${film.why}, of ${frames.length} ${frames.length === 1 ? "call" : "calls"}; each call counts its own.` : none);
+    this.say(steps.length ? `${steps.length} steps${film.why}, of ${calls}; each call counts its own.` : none);
     this.show(line);
   }
 
@@ -48,7 +54,10 @@ export class Film {
   }
 
   // The film's letters are at least as large as the page's.
-  size() { this.parts.frame.contentDocument.documentElement.style.setProperty("--least", getComputedStyle(document.documentElement).fontSize); }
+  size() {
+    this.parts.frame.contentDocument.documentElement.style.setProperty(
+      "--least", getComputedStyle(document.documentElement).fontSize);
+  }
 
   say(text) { this.parts.said.textContent = text; }
 }

@@ -24,18 +24,34 @@ async function begin() {
   const page = new Page(new Transcript(by("transcript")), await Store.open(DATA.place));
   page.session = new Session(calls, DATA.layout, DATA.image, page);
   page.session.work = page.work;
-  page.editor = new Editor(page.session, parts("screen-text", "screen-gutter", "screen-mark", "screen-colors", "screen-number", "screen-count", "screen-back",
-    "screen-on", "screen-shadow", "screen-load", "screen-copy", "screen-paste", "screen-insert", "screen-earlier", "screen-later", "screen-move", "screen-index", "screen-said", "screen-find", "screen-found",
-    "screen-whole", "screen-next", "screen-instead", "screen-replace", "screen-all"));
-  page.film = new Film(page.session, calls, parts("film-form", "film-line", "film-said", "film-full", "film-frame"), (event) => page.pressAnywhere(event));
+  page.editor = new Editor(
+    page.session,
+    parts(
+      "screen-text", "screen-gutter", "screen-mark", "screen-colors", "screen-number", "screen-count", "screen-back",
+      "screen-on", "screen-shadow", "screen-load", "screen-copy", "screen-paste", "screen-insert", "screen-earlier",
+      "screen-later", "screen-move", "screen-index", "screen-said", "screen-find", "screen-found", "screen-whole",
+      "screen-next", "screen-instead", "screen-replace", "screen-all"));
+  page.film = new Film(
+    page.session, calls, parts("film-form", "film-line", "film-said", "film-full", "film-frame"),
+    (event) => page.pressAnywhere(event));
   page.start = new Start(page, parts("door-rose", "door-lesson", "door-old", "start-lines"));
-  page.map = new MemoryMap(page, parts("map-bar", "map-parts", "map-words", "map-fold", "map-others", "map-none", "map-again", "map-said"));
+  page.map = new MemoryMap(
+    page, parts("map-bar", "map-parts", "map-words", "map-fold", "map-others", "map-none", "map-again", "map-said"));
   page.canvas = new Canvas(page, parts("canvas-picture", "canvas-none", "canvas-save", "canvas-try", "canvas-lines"));
-  page.oldDisk = new OldDisk(page, parts("old-choose", "old-file", "old-format", "old-clean", "old-half", "old-ebcdic", "old-offset", "old-sector", "old-skew", "old-first", "old-said", "old-report", "old-screen", "old-preview",
-    "old-insert", "old-dialect", "old-shown"));
-  page.course = new Course(page, parts("course-lesson", "course-text", "course-check", "course-back", "course-on", "course-said", "course-disk"));
-  page.classList = new ClassList(page, calls, parts("class-choose", "class-files", "class-said", "class-table", "class-head",
-    "class-rows", "class-message", "class-csv"));
+  page.oldDisk = new OldDisk(
+    page,
+    parts(
+      "old-choose", "old-file", "old-format", "old-clean", "old-half", "old-ebcdic", "old-offset", "old-sector",
+      "old-skew", "old-first", "old-said", "old-report", "old-screen", "old-preview", "old-insert", "old-dialect",
+      "old-shown"));
+  page.course = new Course(
+    page,
+    parts("course-lesson", "course-text", "course-check", "course-back", "course-on", "course-said", "course-disk"));
+  page.classList = new ClassList(
+    page, calls,
+    parts(
+      "class-choose", "class-files", "class-said", "class-table", "class-head", "class-rows", "class-message",
+      "class-csv"));
   page.manual = new Manual(parts("words-sought", "words-table"), (word) => page.take(word));
   await page.begin();
   Object.assign(window, { page, ready: performance.now() }); // for those who look inside, and for tests

@@ -5,7 +5,12 @@ import { CODES, SYSTEM } from "./cells.js";
 import { MEMORY, PAGE_SIZE } from "./machine.js";
 
 const DICTIONARY = 256, FIRST_LESSON = 21;
-const KINDS = { [CODES.colon]: "colon word", [CODES.variable]: "variable", [CODES.constant]: "constant", [CODES.vocabulary]: "vocabulary" };
+const KINDS = {
+  [CODES.colon]: "colon word",
+  [CODES.variable]: "variable",
+  [CODES.constant]: "constant",
+  [CODES.vocabulary]: "vocabulary"
+};
 
 export class MemoryMap {
   constructor(page, parts) {
@@ -37,9 +42,13 @@ export class MemoryMap {
   // All of memory in a few parts, each with its addresses.
   regions() {
     const { machine } = this, here = machine.cell(SYSTEM.dp), { fence } = this.page.session.places;
-    const buffers = machine.buffers.sort((a, b) => a.place - b.place), limit = buffers.length ? buffers[0].place : MEMORY;
-    const rows = [["system cells", 0, SYSTEM.tib, "system"], ["the line that is typed (TIB)", SYSTEM.tib, DICTIONARY, "system"],
-      ["the Forth's own words", DICTIONARY, fence, "own"], ["your words", fence, Math.max(fence, here), "yours"], ["free", Math.max(fence, here), limit, "free"]];
+    const buffers = machine.buffers.sort((a, b) => a.place - b.place);
+    const limit = buffers.length ? buffers[0].place : MEMORY;
+    const rows = [
+      ["system cells", 0, SYSTEM.tib, "system"], ["the line that is typed (TIB)", SYSTEM.tib, DICTIONARY, "system"],
+      ["the Forth's own words", DICTIONARY, fence, "own"], ["your words", fence, Math.max(fence, here), "yours"],
+      ["free", Math.max(fence, here), limit, "free"]
+    ];
     for (const one of buffers) {
       const what = one.block === null ? "empty" : `block ${one.block}${one.updated ? ", changed" : ""}`;
       rows.push([`buffer ${one.slot}: ${what}`, one.place, one.place + PAGE_SIZE, "buffer"]);
@@ -56,8 +65,9 @@ export class MemoryMap {
     }));
     this.parts.parts.replaceChildren(...regions.map(([what, from, to, kind]) => {
       const row = element("tr");
-      row.append(element("td", "", { class: `key ${kind}` }), element("td", what), element("td", this.address(from)), element("td", this.address(to - 1)),
-        element("td", String(to - from)));
+      row.append(
+        element("td", "", { class: `key ${kind}` }), element("td", what), element("td", this.address(from)),
+        element("td", this.address(to - 1)), element("td", String(to - from)));
       return row;
     }));
   }
@@ -81,8 +91,9 @@ export class MemoryMap {
     const code = this.machine.cell(word.word), row = element("tr"), name = element("td");
     name.append(element("button", word.name, { type: "button", title: `SEE ${word.name}` }));
     const kind = KINDS[code] || (code < 256 ? `primitive ${code}` : "made by a word with DOES>");
-    row.append(name, element("td", this.address(word.header)), element("td", String(end - word.header + 2)), element("td", kind),
-      element("td", word.view ? `screen ${word.view}` : "typed"));
+    row.append(
+      name, element("td", this.address(word.header)), element("td", String(end - word.header + 2)),
+      element("td", kind), element("td", word.view ? `screen ${word.view}` : "typed"));
     return row;
   }
 }

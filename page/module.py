@@ -21,11 +21,14 @@ KEPT = ROOT / "build/out/page"
 MAKERS = [lowering.HERE / name for name in ("libraries.py", "retarget.py", "heap.c")]
 
 
-PROVED = ("The machine in this page is Jaurimet's: its primitives are rows of a written table, and it is proved, in Rattle, to do exactly what "
-          "that table says. What runs here was compiled from the proved library to WebAssembly, by a compiler that isn't proved. The page around it "
-          "is only tested.")
-UNPROVED = ("The machine in this page is not proved: it was made from the library without its proofs, with checks at run time. "
-            "./forth page --proved makes a page of the proved library.")
+PROVED = (
+    "The machine in this page is Jaurimet's: its primitives are rows of a written table, and it is proved, in Rattle, to do exactly what "
+    "that table says. What runs here was compiled from the proved library to WebAssembly, by a compiler that isn't proved. The page around it "
+    "is only tested."
+)
+UNPROVED = (
+    "The machine in this page is not proved: it was made from the library without its proofs, with checks at run time. ./forth page --proved makes a page of the proved library."
+)
 
 
 class Module(NamedTuple):
@@ -106,8 +109,10 @@ def installed() -> Module:
     """The module that is kept, where none can be made: in a copy without sources, or without the toolchain."""
     found = kept(True, None) or kept(False, None)
     if found is None:
-        raise Refused("no module was made here, and none can be made without the sources and the Rattle toolchain's rt: tools/use-release takes that of "
-                      "a release, and ./forth page --proved -o x.html makes one in the repository, before ./install")
+        raise Refused(
+            "no module was made here, and none can be made without the sources and the Rattle toolchain's rt: tools/use-release takes that of "
+            "a release, and ./forth page --proved -o x.html makes one in the repository, before ./install"
+        )
     return found
 
 

@@ -1,4 +1,5 @@
-// Old disks: shows a file of another system in a format, reports on its screens, adds them as a disk, and loads their dialect.
+// Old disks: shows a file of another system in a format, reports on its screens, adds them as a disk, and loads their
+// dialect.
 
 import { DATA } from "./data.js";
 import { linesOf } from "./disk.js";
@@ -21,7 +22,8 @@ export class OldDisk {
     parts.format.append(...DATA.formats.map((one) => new Option(`${one.name}: ${one.what}`, one.name)));
     parts.choose.addEventListener("click", () => parts.file.click());
     parts.file.addEventListener("change", () => this.read(parts.file.files[0]));
-    for (const control of [parts.format, parts.clean, parts.half, parts.ebcdic, parts.offset, parts.sector, parts.skew, parts.first])
+    for (const control of
+           [parts.format, parts.clean, parts.half, parts.ebcdic, parts.offset, parts.sector, parts.skew, parts.first])
       control.addEventListener("change", () => this.draw());
     parts.screen.addEventListener("input", () => this.show());
     parts.insert.addEventListener("click", () => this.insert());
@@ -46,10 +48,18 @@ export class OldDisk {
 
   // What was chosen, as options of a command line.
   options() {
-    const { format, clean, half, ebcdic, offset, sector, skew, first } = this.parts, order = skew.value.trim().split(/[\s,]+/).join(",");
-    const valued = [["offset", offset.value.trim()], ["sector", sector.value.trim()], ["skew", order], ["first", first.value.trim()]];
-    const flags = [["clean", clean], ["half", half], ["ebcdic", ebcdic]].filter(([, box]) => box.checked).map(([name]) => `--${name}`);
-    return [`--format ${format.value}`, ...valued.filter(([, text]) => text).map(([name, text]) => `--${name} ${text}`), ...flags].join(" ");
+    const { format, clean, half, ebcdic, offset, sector, skew, first } = this.parts;
+    const order = skew.value.trim().split(/[\s,]+/).join(",");
+    const valued = [
+      ["offset", offset.value.trim()], ["sector", sector.value.trim()], ["skew", order], ["first", first.value.trim()]
+    ];
+    const flags = [["clean", clean], ["half", half], ["ebcdic", ebcdic]]
+      .filter(([, box]) => box.checked)
+      .map(([name]) => `--${name}`);
+    return [
+      `--format ${format.value}`, ...valued.filter(([, text]) => text).map(([name, text]) => `--${name} ${text}`),
+      ...flags
+    ].join(" ");
   }
 
   // Reads the container in the chosen format.
@@ -74,19 +84,24 @@ export class OldDisk {
 
   // The first screen that has something in it.
   firstScreen(count) {
-    for (let block = 0; block < count; block++) if (linesOf(this.pageAt(block)).some((line) => line && /[^\xe5]/.test(line))) return block;
+    for (let block = 0; block < count; block++)
+      if (linesOf(this.pageAt(block)).some((line) => line && /[^\xe5]/.test(line))) return block;
     return 0;
   }
 
   show() {
     const { preview, screen } = this.parts, block = Math.floor(Number(screen.value));
     const isThere = this.blocks && block >= 0 && block < this.blocks.length / PAGE_SIZE;
-    preview.textContent = isThere ? linesOf(this.pageAt(block)).map((line, at) => `${String(at).padStart(2)} ${line}`).join("\n") : "";
+    preview.textContent = isThere
+      ? linesOf(this.pageAt(block)).map((line, at) => `${String(at).padStart(2)} ${line}`).join("\n")
+      : "";
   }
 
-  // Reports on the screens as `./forth survey` does, for the Forth that a page begins with, and offers the dialect that they need.
+  // Reports on the screens as `./forth survey` does, for the Forth that a page begins with, and offers the dialect
+  // that they need.
   survey() {
-    const { report, dialect } = this.parts, made = this.blocks ? this.forth.survey(this.name, this.blocks) : { report: "", dialect: 0 };
+    const { report, dialect } = this.parts;
+    const made = this.blocks ? this.forth.survey(this.name, this.blocks) : { report: "", dialect: 0 };
     this.best = DIALECTS[made.dialect];
     dialect.disabled = !this.best;
     report.textContent = made.report;

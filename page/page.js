@@ -11,14 +11,17 @@ import { ask, by } from "./parts.js";
 import { Work } from "./work.js";
 
 const MOST_LINES = 200, DAY = 86400000;
-const NARROW = "(max-width: 75.99rem)", SIGNS_OF_LINES = [":", ";", "@", "!", ".", '."', '"', "(", ")", "+", "-", "*", "/", "="];
+const NARROW = "(max-width: 75.99rem)";
+const SIGNS_OF_LINES = [":", ";", "@", "!", ".", '."', '"', "(", ")", "+", "-", "*", "/", "="];
 // Keys that a program gets as a terminal would send them.
 const ARROWS = { ArrowUp: "A", ArrowDown: "B", ArrowRight: "C", ArrowLeft: "D", Home: "H", End: "F" };
 const KEYS = { Backspace: [127], Escape: [27], Enter: [10], Tab: [9] };
 
 export class Page {
   constructor(transcript, store) {
-    Object.assign(this, { transcript, history: [], place: 0, isOpen: false, ask, work: new Work(store, this), files: new Files(this) });
+    Object.assign(
+      this,
+      { transcript, history: [], place: 0, isOpen: false, ask, work: new Work(store, this), files: new Files(this) });
   }
 
   async begin() {
@@ -26,7 +29,12 @@ export class Page {
     this.size(Number(await this.work.setting("size")) || (innerWidth < 2080 ? 16 : 18));
     await this.beginWork((await this.work.setting("work")) || "");
     this.course.find(await this.work.setting("lesson"));
-    this.tab((await this.work.setting("tab")) || (DATA.start.length ? (matchMedia(NARROW).matches ? "forth" : "screens") : DATA.screen === null ? "start" : "course"));
+    this.tab(
+      (await this.work.setting("tab")) ||
+      (DATA.start.length
+         ? (matchMedia(NARROW).matches ? "forth" : "screens")
+         : DATA.screen === null ? "start"
+        : "course"));
     by("line").focus();
   }
 
@@ -53,7 +61,9 @@ export class Page {
   get isKeeping() { return this.isOpen && this.work.isOurs; }
 
   startNew() {
-    const keeps = this.work.store.database ? " Your work is kept in this browser." : " This browser keeps nothing: save your work as a file.";
+    const keeps = this.work.store.database
+      ? " Your work is kept in this browser."
+      : " This browser keeps nothing: save your work as a file.";
     this.note(`${DATA.title} Type 3 4 + . and press Enter. HELP says more.${keeps}`);
     this.session.forget();
     this.session.start();
@@ -72,7 +82,8 @@ export class Page {
   // Goes on with a machine that was kept. One of an older page may be exchanged for this page's.
   goOn(kept) {
     const { memory } = this.session.machine, old = kept.version || { text: versionOf(memory).text };
-    const isOther = old.text !== DATA.version.text || kept.places.fence !== this.session.own.fence, isOld = old.image ? old.image !== DATA.version.image : isOther;
+    const isOther = old.text !== DATA.version.text || kept.places.fence !== this.session.own.fence;
+    const isOld = old.image ? old.image !== DATA.version.image : isOther;
     this.work.version = old;
     nameVersion(memory, DATA.version.text);
     this.work.goOn();
@@ -81,10 +92,17 @@ export class Page {
   }
 
   async offer(old, texts) {
-    const lines = makingLines(texts), again = lines.length ? ` What made words is typed again: ${lines.length} ${lines.length === 1 ? "line" : "lines"}.` : "";
-    const lacks = this.session.isForeign ? " The old one goes on, but EDIT, MS and the marks of faults do nothing in it." : "";
-    const question = `Your Forth is that of an older page (${old.text || "unknown"}); this page brings ${DATA.version.text}. With the new one, your disks stay.${again}${lacks}`;
-    if (!(await this.ask(question, ["Take the new Forth"], { cancel: "Keep the old one" }))) return void (Object.assign(this.work.version, { left: DATA.version.image }), this.keeps());
+    const lines = makingLines(texts);
+    const again = lines.length
+      ? ` What made words is typed again: ${lines.length} ${lines.length === 1 ? "line" : "lines"}.`
+      : "";
+    const lacks = this.session.isForeign
+      ? " The old one goes on, but EDIT, MS and the marks of faults do nothing in it."
+      : "";
+    const question = `Your Forth is that of an older page (${old.text || "unknown"}); this page brings ` +
+      `${DATA.version.text}. With the new one, your disks stay.${again}${lacks}`;
+    if (!(await this.ask(question, ["Take the new Forth"], { cancel: "Keep the old one" })))
+      return void (Object.assign(this.work.version, { left: DATA.version.image }), this.keeps());
     await this.idle();
     this.session.settle();
     this.work.remember("update");
@@ -102,7 +120,8 @@ export class Page {
     if (!this.isOpen) return;
     if (!isBack && this.shown !== disk) this.note(`The disk is ${disk.name} now, with ${disk.count} screens.`);
     this.course.list();
-    const isLesson = document.body.dataset.tab === "course" && this.course.isOpen, first = isLesson ? this.course.lesson.screen : this.firstScreen();
+    const isLesson = document.body.dataset.tab === "course" && this.course.isOpen;
+    const first = isLesson ? this.course.lesson.screen : this.firstScreen();
     this.editor.go(this.shown === disk ? this.editor.block : first);
     this.shown = disk;
     this.changed();
@@ -238,16 +257,29 @@ export class Page {
 
   listenToButtons() {
     const { files } = this;
-    const acts = { stop: () => this.stop(), undo: () => this.work.undo(), redo: () => this.work.redo(), over: () => location.reload(), anew: () => this.anew(), larger: () => this.size(this.points + 2),
+    const acts = {
+      stop: () => this.stop(),
+      undo: () => this.work.undo(),
+      redo: () => this.work.redo(),
+      over: () => location.reload(),
+      anew: () => this.anew(),
+      larger: () => this.size(this.points + 2),
       smaller: () => this.size(this.points - 2), open: () => by("file").click(), "new-disk": () => files.newDisk(),
-      "rename-disk": () => files.renameDisk(), "remove-disk": () => files.removeDisk(), "new-work": () => this.newWork(),
+      "rename-disk": () => files.renameDisk(),
+      "remove-disk": () => files.removeDisk(),
+      "new-work": () => this.newWork(),
       "print-screens": () => files.print(), "save-blocks": () => files.save("blk", () => this.session.disk.bytes),
-      "save-text": () => files.save("txt", () => textOf(this.session.disk)), "save-all": () => files.saveAll(), "save-transcript": () => files.saveBlob("txt", new Blob([this.transcript.text()]), "transcript"), "save-image": () => files.saveImage() };
+      "save-text": () => files.save("txt", () => textOf(this.session.disk)),
+      "save-all": () => files.saveAll(),
+      "save-transcript": () => files.saveBlob("txt", new Blob([this.transcript.text()]), "transcript"),
+      "save-image": () => files.saveImage()
+    };
     for (const [id, act] of Object.entries(acts)) by(id).addEventListener("click", act);
     by("file").addEventListener("change", (event) => files.openAll([...event.target.files]));
     by("disks").addEventListener("change", (event) => this.work.putIn(event.target.value));
     by("works").addEventListener("change", (event) => this.changeWork(event.target.value));
-    for (const tab of document.querySelectorAll("[role=tab]")) tab.addEventListener("click", () => this.tab(tab.dataset.tab));
+    for (const tab of document.querySelectorAll("[role=tab]"))
+      tab.addEventListener("click", () => this.tab(tab.dataset.tab));
     by("tabs").addEventListener("keydown", (event) => this.turn(event));
   }
 
@@ -267,11 +299,13 @@ export class Page {
   // The line between the Forth and the tabs, which can be moved.
   listenToDivider() {
     const divider = by("divider"), move = (x) => {
-      document.querySelector("main").style.setProperty("--forth", `${Math.max(20, Math.min(80, (100 * x) / innerWidth))}%`);
+      document.querySelector("main").style.setProperty(
+        "--forth", `${Math.max(20, Math.min(80, (100 * x) / innerWidth))}%`);
       this.transcript.fit();
     };
     divider.addEventListener("pointerdown", (event) => divider.setPointerCapture(event.pointerId));
-    divider.addEventListener("pointermove", (event) => divider.hasPointerCapture(event.pointerId) && move(event.clientX));
+    divider.addEventListener(
+      "pointermove", (event) => divider.hasPointerCapture(event.pointerId) && move(event.clientX));
     divider.addEventListener("keydown", ({ key }) => {
       if (key === "ArrowLeft" || key === "ArrowRight") move(divider.offsetLeft + (key === "ArrowLeft" ? -20 : 20));
     });
@@ -288,7 +322,9 @@ export class Page {
   explain(event) {
     event.preventDefault();
     const place = document.activeElement, { value, selectionStart } = place;
-    const word = typeof value === "string" && typeof selectionStart === "number" ? wordAt(value, selectionStart) : String(getSelection()).trim();
+    const word = typeof value === "string" && typeof selectionStart === "number"
+      ? wordAt(value, selectionStart)
+      : String(getSelection()).trim();
     this.showWord(word);
     by("words-sought").focus();
   }
@@ -318,7 +354,10 @@ export class Page {
   pressKey(event) {
     const arrow = ARROWS[event.key];
     const isControl = event.ctrlKey && event.key.length === 1;
-    const bytes = arrow ? [27, 91, arrow.charCodeAt(0)] : isControl ? [event.key.toUpperCase().charCodeAt(0) & 31] : KEYS[event.key];
+    const bytes = arrow
+      ? [27, 91, arrow.charCodeAt(0)]
+      : isControl ? [event.key.toUpperCase().charCodeAt(0) & 31]
+      : KEYS[event.key];
     if (!bytes) return;
     event.preventDefault();
     if (bytes[0] === 3) this.stop();
@@ -353,7 +392,8 @@ export class Page {
     this.isFromEditor = false;
     this.outcome = "done";
     this.advise("");
-    for (const line of lines) if (line.trim() && line !== this.history[this.history.length - 1]) this.history.push(line);
+    for (const line of lines)
+      if (line.trim() && line !== this.history[this.history.length - 1]) this.history.push(line);
     this.history = this.history.slice(-MOST_LINES);
     this.place = this.history.length;
     this.session.type(lines);
@@ -361,8 +401,10 @@ export class Page {
 
   // What may help after a word that the Forth doesn't know.
   advise(word) {
-    const near = word ? this.manual.near(word, this.session.machine.words().map((one) => one.name)) : [], said = `I don't know the word ${word}. ${near.length ? "Perhaps " : ""}`;
-    const search = element("button", "Search in Words", { type: "button" }), words = near.map((name) => element("button", name, { type: "button", class: "word" }));
+    const near = word ? this.manual.near(word, this.session.machine.words().map((one) => one.name)) : [];
+    const said = `I don't know the word ${word}. ${near.length ? "Perhaps " : ""}`;
+    const search = element("button", "Search in Words", { type: "button" });
+    const words = near.map((name) => element("button", name, { type: "button", class: "word" }));
     by("advice").hidden = !word;
     by("advice").replaceChildren(element("span", said), ...words, search);
     search.onclick = () => this.showWord(word);
@@ -387,7 +429,8 @@ export class Page {
   }
 
   async anew() {
-    const question = "Start a new Forth? The words that you typed will be gone; the screens are kept. Undo brings them back.";
+    const question =
+      "Start a new Forth? The words that you typed will be gone; the screens are kept. Undo brings them back.";
     if (!(await this.ask(question, ["Start a new Forth"]))) return;
     this.session.settle();
     this.work.remember("new Forth");
@@ -417,10 +460,13 @@ export class Page {
     this.transcript.fit();
   }
 
-  // The editor is below the lesson whose screen it shows, and the canvas below one that draws; or each is in its own tab.
+  // The editor is below the lesson whose screen it shows, and the canvas below one that draws; or each is in its own
+  // tab.
   placeDesk() {
-    const { course } = this, isCourse = document.body.dataset.tab === "course", isLesson = isCourse && course.isOpen, desk = by("desk"), picture = by("canvas-picture");
-    const place = by(isLesson ? "course-desk" : "screens"), wall = by(isCourse && course.isDrawing ? "course-desk" : "canvas");
+    const { course } = this, isCourse = document.body.dataset.tab === "course", isLesson = isCourse && course.isOpen;
+    const desk = by("desk"), picture = by("canvas-picture");
+    const place = by(isLesson ? "course-desk" : "screens");
+    const wall = by(isCourse && course.isDrawing ? "course-desk" : "canvas");
     if (picture.parentElement !== wall) wall.prepend(picture);
     if (desk.parentElement === place) return;
     place.prepend(desk);
@@ -428,7 +474,8 @@ export class Page {
   }
 
   turn(event) {
-    const tabs = [...document.querySelectorAll("[role=tab]")].filter((tab) => tab.offsetParent), at = tabs.indexOf(event.target);
+    const tabs = [...document.querySelectorAll("[role=tab]")].filter((tab) => tab.offsetParent);
+    const at = tabs.indexOf(event.target);
     const step = { ArrowRight: 1, ArrowLeft: tabs.length - 1 }[event.key];
     if (!step || at < 0) return;
     const tab = tabs[(at + step) % tabs.length];
@@ -447,7 +494,8 @@ export class Page {
   // Several people at one computer keep their work under their names.
   async listWorks() {
     const names = await this.work.people();
-    by("works").replaceChildren(...names.map((name) => new Option(name || "(no name)", name, false, name === this.work.name)));
+    by("works").replaceChildren(
+      ...names.map((name) => new Option(name || "(no name)", name, false, name === this.work.name)));
   }
 
   async newWork() {
@@ -470,25 +518,34 @@ export class Page {
   }
 
   // What is kept beside the machine and the disks.
-  seen() { return { texts: this.transcript.mark(), history: this.history, screen: this.editor.block, when: Date.now() }; }
+  seen() {
+    return { texts: this.transcript.mark(), history: this.history, screen: this.editor.block, when: Date.now() };
+  }
 
   remember(name, value) { this.work.set(name, value); }
 
   // Asks the browser, once there is work of a person's, not to drop it by itself.
   persist() {
-    if (!this.isPersistent && navigator.storage && navigator.storage.persist) navigator.storage.persist().catch(() => false);
+    if (!this.isPersistent && navigator.storage && navigator.storage.persist)
+      navigator.storage.persist().catch(() => false);
     this.isPersistent = true;
   }
 
   // Shows whether work is kept: "kept", "refused" by the browser, or "lost" to another window.
   kept(answer) {
-    const days = Math.floor((Date.now() - this.work.saved) / DAY), ago = days ? `${days} ${days === 1 ? "day" : "days"} ago` : "today";
+    const days = Math.floor((Date.now() - this.work.saved) / DAY);
+    const ago = days ? `${days} ${days === 1 ? "day" : "days"} ago` : "today";
     const isLost = answer === "lost", wasLost = !by("over").hidden;
     by("kept").textContent = { kept: `kept in this browser; saved as a file: ${this.work.saved ? ago : "never"}`,
-      refused: "NOT KEPT: this browser keeps nothing; save your work as a file", lost: "only shown here: another window has this work now" }[answer];
+      refused: "NOT KEPT: this browser keeps nothing; save your work as a file",
+      lost: "only shown here: another window has this work now"
+    }[answer];
     by("kept").classList.toggle("at-fault", answer !== "kept");
     by("over").hidden = !isLost;
     by("line").disabled = by("screen-text").readOnly = isLost;
-    if (isLost && !wasLost) this.note("This page is open in another window, which has your work now. This window only shows it; Take over brings it back here.");
+    if (isLost && !wasLost)
+      this.note(
+        "This page is open in another window, which has your work now. This window only shows it; " +
+          "Take over brings it back here.");
   }
 }

@@ -19,7 +19,9 @@ export function ask(question, answers, { given, cancel = "Cancel" } = {}) {
       resolve(answer);
     };
     const buttons = [...answers, cancel].map((answer, at) => {
-      const one = Object.assign(document.createElement("button"), { type: at ? "button" : "submit", textContent: answer, className: at ? "" : "main" });
+      const one = Object.assign(
+        document.createElement("button"),
+        { type: at ? "button" : "submit", textContent: answer, className: at ? "" : "main" });
       if (at) one.onclick = () => end(answer === cancel ? null : answer);
       return one;
     });

@@ -1,5 +1,6 @@
-// What words of the machine ask their host for: a function for each service of commands/served/table.py, as commands/served/services.py has them.
-// What it returns: WAITS if a person is needed first, MOVED if the machine goes on elsewhere, or a promise of whether it is done.
+// What words of the machine ask their host for: a function for each service of commands/served/table.py, as
+// commands/served/services.py has them. What it returns: WAITS if a person is needed first, MOVED if the machine goes
+// on elsewhere, or a promise of whether it is done.
 
 import { decode, signed } from "./bytes.js";
 import { DATA } from "./data.js";
@@ -29,9 +30,11 @@ function screen(host, block) {
   return host.page(block);
 }
 
-const lineBytes = (page, line) => trimmedEnd(page.slice(COLUMNS * line, COLUMNS * (line + 1)).map((byte) => byte || 32));
+const lineBytes = (page, line) => trimmedEnd(
+  page.slice(COLUMNS * line, COLUMNS * (line + 1)).map((byte) => byte || 32));
 const allLines = (page) => Array.from({ length: PAGE_SIZE / COLUMNS }, (_, line) => plain(lineBytes(page, line)));
-const listed = (host, block) => `Screen ${block}\n${allLines(screen(host, block)).map((line, at) => `${String(at).padStart(2)} ${line}`.trimEnd()).join("\n")}\n`;
+const numbered = (line, at) => `${String(at).padStart(2)} ${line}`.trimEnd();
+const listed = (host, block) => `Screen ${block}\n${allLines(screen(host, block)).map(numbered).join("\n")}\n`;
 
 // The blocks from one to another, which a word left.
 function blocksFrom(host) {
@@ -65,7 +68,8 @@ const isOfSystem = ({ machine }, word) => word < machine.cell(SYSTEM.fence);
 
 // A screen of the system, or its lines that have a name.
 function systemSource(block, part = "") {
-  const [path, text] = DATA.system[block] || ["screens/kernel.txt", linesOf(builtIn("forth.blk").page(block)).join("\n").trimEnd()];
+  const [path, text] = DATA.system[block] ||
+    ["screens/kernel.txt", linesOf(builtIn("forth.blk").page(block)).join("\n").trimEnd()];
   const lines = text.split("\n").filter((line) => line.includes(part));
   return text ? `${[`${path}, screen ${block}`, ...lines].join("\n")}\n` : "a word of the system\n";
 }
@@ -77,7 +81,8 @@ export function placeOf(host, { view, word }) {
   return isOfSystem(host, word) ? "a word of the system" : view ? `screen ${view}` : "typed";
 }
 
-// The words of vocabularies, the newest first: of those of the same name only the newest of the first vocabulary that has it.
+// The words of vocabularies, the newest first: of those of the same name only the newest of the first vocabulary that
+// has it.
 export function visible({ machine }, vocabularies) {
   const headers = new Map(machine.words().map((one) => [one.header, one])), found = new Map();
   for (const head of vocabularies.flatMap((one) => [one, one + 2, one + 4, one + 6]))
@@ -101,18 +106,27 @@ function dumped(machine, address, count) {
   const rows = [];
   for (let at = 0; at < count; at += 16) {
     const bytes = Array.from({ length: Math.min(16, count - at) }, (_, next) => machine.byte(address + at + next));
-    const place = ((address + at) & 0xffff).toString(16).toUpperCase().padStart(5), hex = bytes.map((byte) => `${byte.toString(16).toUpperCase().padStart(2, "0")} `).join("");
-    rows.push(`${place} ${hex}${bytes.map((byte) => (byte >= 32 && byte <= 126 ? String.fromCharCode(byte) : ".")).join("")}`);
+    const place = ((address + at) & 0xffff).toString(16).toUpperCase().padStart(5);
+    const hex = bytes.map((byte) => `${byte.toString(16).toUpperCase().padStart(2, "0")} `).join("");
+    rows.push(
+      `${place} ${hex}${bytes.map((byte) => (byte >= 32 && byte <= 126 ? String.fromCharCode(byte) : ".")).join("")}`);
   }
   return `${rows.join("\n")}\n`;
 }
 
 // What the manual says of a word.
 function helpFor({ machine }, name) {
-  const immediate = machine.words().some((one) => one.isImmediate && one.name === name.toUpperCase()) ? ", immediate" : "";
+  const immediate = machine.words().some((one) => one.isImmediate && one.name === name.toUpperCase())
+    ? ", immediate"
+    : "";
   const found = DATA.manual.filter(([one]) => one === name || one === name.toUpperCase());
-  if (!found.length) return `the manual has no word ${name}; WORDS ${name} lists the names that contain it, and the tab Words searches in what words do`;
-  return found.reverse().map(([one, effect, section, html]) => `${one}  ${effect}${immediate}\n  ${html.replace(" Example: ", "\n  example: ").replace(/<[^>]*>/g, "").replace(/&lt;/g, "<").replace(/&gt;/g, ">").replace(/&amp;/g, "&")}\n  in: ${section}`).join("\n");
+  if (!found.length)
+    return `the manual has no word ${name}; WORDS ${name} lists the names that contain it, ` +
+      "and the tab Words searches in what words do";
+  const said = (html) => html.replace(" Example: ", "\n  example: ").replace(/<[^>]*>/g, "")
+    .replace(/&lt;/g, "<").replace(/&gt;/g, ">").replace(/&amp;/g, "&");
+  const shown = ([one, effect, section, html]) => `${one}  ${effect}${immediate}\n  ${said(html)}\n  in: ${section}`;
+  return found.reverse().map(shown).join("\n");
 }
 
 // The words from the innermost one to that which the line has: a return address comes after a call, in a word's thread.
@@ -150,7 +164,8 @@ function* linesWith(host) {
   const wanted = decode(host.rest()).trim();
   if (!wanted) throw new Refusal("", FAULTS.missing);
   for (const block of blocksFrom(host))
-    for (const [at, line] of allLines(screen(host, block)).entries()) if (line.includes(wanted)) yield `screen ${block} line ${at} ${line}\n`;
+    for (const [at, line] of allLines(screen(host, block)).entries())
+      if (line.includes(wanted)) yield `screen ${block} line ${at} ${line}\n`;
 }
 
 export const SERVICES = {
@@ -168,7 +183,8 @@ export const SERVICES = {
     if (host.opened.length > MOST_TEXTS) throw new Refusal("too many files at once");
     const { name, first, count } = host.roomForTexts().open(host.word(), host.machine.cell(SYSTEM.blk));
     host.opened.push(name);
-    host.lookAt(Array.from({ length: count }, (_, at) => host.textLine(first + at)).map((line) => [named(line), decode(line.text)]));
+    host.lookAt(Array.from({ length: count }, (_, at) => host.textLine(first + at))
+      .map((line) => [named(line), decode(line.text)]));
     host.results(first, first + count);
   },
   // INCLUDE, but of a text that was read it leaves no lines.
@@ -190,7 +206,11 @@ export const SERVICES = {
   EVALUATE(host) {
     const [address, size] = host.numbers(2);
     if (size > PAGE_SIZE) throw new Refusal(`EVALUATE takes at most ${PAGE_SIZE} bytes`);
-    host.set(DATA.door.second, size ? host.roomForTexts().evaluated(Uint8Array.from({ length: size }, (_, at) => host.machine.byte(address + at))) : 0);
+    host.set(
+      DATA.door.second,
+      size
+        ? host.roomForTexts().evaluated(Uint8Array.from({ length: size }, (_, at) => host.machine.byte(address + at)))
+        : 0);
   },
   INCLUDED(host) {
     const name = host.opened.pop() || "";
@@ -206,7 +226,8 @@ export const SERVICES = {
   LIST(host) { sayLine(host, listed(host, host.numbers(1)[0])); },
   INDEX(host) {
     sayLine(host, "");
-    for (const block of blocksFrom(host)) say(host, `${`${String(block).padStart(5)} ${allLines(screen(host, block))[0]}`.trimEnd()}\n`);
+    for (const block of blocksFrom(host))
+      say(host, `${`${String(block).padStart(5)} ${allLines(screen(host, block))[0]}`.trimEnd()}\n`);
   },
   SEARCH(host) {
     sayLine(host, "");
@@ -239,13 +260,17 @@ export const SERVICES = {
   },
   EMPTY({ machine, view }) {
     const changed = machine.buffers.filter((one) => one.updated).map((one) => one.block).sort((a, b) => a - b);
-    if (changed.length) view.say(`dropped the unsaved changes of screen ${changed.map((block) => `${block} `).join("")}`);
+    if (changed.length)
+      view.say(`dropped the unsaved changes of screen ${changed.map((block) => `${block} `).join("")}`);
   },
 
-  "NO-LINE"(host) { throw new Refusal(`line ${signed(host.numbers(1)[0])} does not exist, 0 to 15 do; nothing was done`); },
+  "NO-LINE"(host) {
+    throw new Refusal(`line ${signed(host.numbers(1)[0])} does not exist, 0 to 15 do; nothing was done`);
+  },
   "NO-FIT"(host) {
     const { text, offset } = host.input();
-    throw new Refusal(`the line has ${trimmedEnd(text.subarray(offset)).length} characters, ${COLUMNS} fit; nothing was done`);
+    throw new Refusal(
+      `the line has ${trimmedEnd(text.subarray(offset)).length} characters, ${COLUMNS} fit; nothing was done`);
   },
   "LINE-LOST"() { throw new Refusal("line 15 is not blank; it would be lost"); },
   // Shows the line of the word that asks, after its place.
@@ -262,7 +287,8 @@ export const SERVICES = {
       sayLine(host, `${host.machine.see(name)}\n`);
     } catch (error) {
       if (!(error instanceof Refused)) throw error;
-      if (error.cause !== NOT_COLON) throw new Refusal(`${typed} cannot be shown: ${DATA.see[error.cause] || "it has no source"}`);
+      if (error.cause !== NOT_COLON)
+        throw new Refusal(`${typed} cannot be shown: ${DATA.see[error.cause] || "it has no source"}`);
       sayLine(host, `${kindOfWord(host, name)}\n`);
     }
   },
@@ -288,7 +314,10 @@ export const SERVICES = {
     }
   },
   WORDS(host) {
-    const part = host.word(), names = visible(host, [host.machine.cell(SYSTEM.context)]).map((one) => one.name).filter((name) => name.toUpperCase().includes(part.toUpperCase()));
+    const part = host.word();
+    const names = visible(host, [host.machine.cell(SYSTEM.context)])
+      .map((one) => one.name)
+      .filter((name) => name.toUpperCase().includes(part.toUpperCase()));
     sayLine(host, names.length ? inLines(names) : `no word has ${part} in its name\n`);
   },
   HELP(host) {
@@ -328,7 +357,9 @@ export const SERVICES = {
   // Puts the second, minute, hour, day, month and year into six cells at an address.
   DATE(host) {
     const [address] = host.numbers(1), now = new Date();
-    const parts = [now.getSeconds(), now.getMinutes(), now.getHours(), now.getDate(), now.getMonth() + 1, now.getFullYear()];
+    const parts = [
+      now.getSeconds(), now.getMinutes(), now.getHours(), now.getDate(), now.getMonth() + 1, now.getFullYear()
+    ];
     for (const [at, number] of parts.entries()) host.set(address + 2 * at, number);
   },
   CLOCK(host) {
@@ -357,13 +388,15 @@ export const SERVICES = {
     if (!host.failed) throw new Refusal("there was no fault yet");
     if (!host.failed.log) throw new Refusal("the line took too many keys, blocks and services to be run again");
     const machine = runAgain(host.failed, host.spare()), words = machine.words(), ip = machine.field("ip");
-    const token = machine.field("has_pending") ? machine.field("pending") : machine.cell(ip), row = (one) => `${one.name.padEnd(16)} ${placeOf(host, one)}\n`;
+    const token = machine.field("has_pending") ? machine.field("pending") : machine.cell(ip);
+    const row = (one) => `${one.name.padEnd(16)} ${placeOf(host, one)}\n`;
     sayLine(host, [...words.filter((one) => one.word === token), ...callers(machine, words)].map(row).join(""));
     say(host, `stack: ${machine.values.map(signed).join(" ") || "empty"}\n`);
   },
   DEBUG(host) {
     const [typed, name] = foundWord(host), token = host.machine.token(name);
-    if (!hasThread({ code: host.machine.cell(token) })) throw new Refusal(`${typed} has no steps: neither : nor DOES> made it`);
+    if (!hasThread({ code: host.machine.cell(token) }))
+      throw new Refusal(`${typed} has no steps: neither : nor DOES> made it`);
     host.results(token, 0);
     host.debug();
   },

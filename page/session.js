@@ -1,4 +1,5 @@
-// A session: a machine with the disk that is in. It runs in slices of time, so that the page still responds, and any program can be stopped.
+// A session: a machine with the disk that is in. It runs in slices of time, so that the page still responds, and any
+// program can be stopped.
 
 import { encode } from "./bytes.js";
 import { DATA } from "./data.js";
@@ -12,7 +13,8 @@ const SLICE = 12, LONG = 2000, LONGEST_LINE = 1024, HALTED_BY_FAULT = 4;
 const numbers = (places) => Object.fromEntries(Object.entries(places).map(([name, place]) => [name, Number(place)]));
 
 export class Session extends Host {
-  // view: the page. Besides what a host asks of its view: note(text), started(isAnswer), changed(), steps(line, record), looks() and keeps().
+  // view: the page. Besides what a host asks of its view: note(text), started(isAnswer), changed(), steps(line,
+  // record), looks() and keeps().
   constructor(calls, layout, image, view) {
     super(new Machine(calls, layout), view);
     Object.assign(this, { calls, layout, image, outer: null, program: "" });
@@ -44,10 +46,12 @@ export class Session extends Host {
     this.load(this.image, this.own);
   }
 
-  // Runs an image in place of the Forth, which continues where it was when the image ends; returns whether it is an image.
+  // Runs an image in place of the Forth, which continues where it was when the image ends; returns whether it is an
+  // image.
   runImage(program, image) {
     this.settle();
-    const record = this.machine.copy(), outer = this.outer || { record, places: this.places }, before = this.work.snapshot(program);
+    const record = this.machine.copy(), outer = this.outer || { record, places: this.places };
+    const before = this.work.snapshot(program);
     try {
       this.load(image);
     } catch {
@@ -56,12 +60,14 @@ export class Session extends Host {
     }
     this.work.push(before);
     Object.assign(this, { outer, program });
-    this.view.note(`${program} runs now. Stop interrupts it. When it ends, or after Undo, the Forth goes on where it was.`);
+    this.view.note(
+      `${program} runs now. Stop interrupts it. When it ends, or after Undo, the Forth goes on where it was.`);
     this.go();
     return true;
   }
 
-  // When the program has ended, continues with the Forth from before. A record that isn't a machine's is refused, and a new Forth starts.
+  // When the program has ended, continues with the Forth from before. A record that isn't a machine's is refused, and
+  // a new Forth starts.
   leave(why) {
     const { program, outer } = this;
     this.settle();
@@ -84,7 +90,8 @@ export class Session extends Host {
 
   // Continues with a machine that was kept; returns whether it is valid.
   resume(kept) {
-    const { places, outer, program, texts } = this, before = { places, outer, program, texts }, record = this.machine.copy();
+    const { places, outer, program, texts } = this, before = { places, outer, program, texts };
+    const record = this.machine.copy();
     try {
       this.take(kept);
       this.machine.run(0);
@@ -105,9 +112,14 @@ export class Session extends Host {
 
   // Restores what was kept; throws if the sizes differ.
   take({ record, places, outer, program, sources }) {
-    const { size } = this.layout, now = inLayout3(record, this.layout), before = outer ? inLayout3(outer.record, this.layout) : null;
+    const { size } = this.layout, now = inLayout3(record, this.layout);
+    const before = outer ? inLayout3(outer.record, this.layout) : null;
     if (now.length !== size || (before && before.length !== size)) throw new Error("other sizes");
-    Object.assign(this, { places: numbers(places), program: String(program || ""), texts: new Texts(sources), ...this.fresh(),
+    Object.assign(this, {
+      places: numbers(places),
+      program: String(program || ""),
+      texts: new Texts(sources),
+      ...this.fresh(),
       outer: before ? { record: before, places: numbers(outer.places) } : null });
     this.machine.restore(now);
     this.machine.haveAllBlocks();
@@ -118,12 +130,19 @@ export class Session extends Host {
     return { record: machine.copy(), places: { ...places }, outer, program, sources: texts.kept() };
   }
 
-  // An image of the Forth with its words, which starts with a word or, if none is named, with the Forth itself: { image } or { wrong }.
+  // An image of the Forth with its words, which starts with a word or, if none is named, with the Forth itself: {
+  // image } or { wrong }.
   saved(name) {
     const { machine, places } = this, sought = name.toUpperCase();
-    if (!this.isPrompt || this.isRunning) return { wrong: this.isForeign && this.waitsForLine ? "the Forth of an older page makes none" : "the Forth must wait for a line" };
+    if (!this.isPrompt || this.isRunning)
+      return {
+        wrong: this.isForeign && this.waitsForLine
+          ? "the Forth of an older page makes none"
+          : "the Forth must wait for a line"
+      };
     if (machine.cell(SYSTEM.state)) return { wrong: "a definition is unfinished" };
-    const word = name && machine.words().filter((one) => one.name.toUpperCase() === sought).pop(), record = machine.copy();
+    const word = name && machine.words().filter((one) => one.name.toUpperCase() === sought).pop();
+    const record = machine.copy();
     if (name && !word) return { wrong: `there is no word ${name}` };
     machine.setCell(places.boot, word ? word.word : 0);
     machine.setCell(DATA.door.mark, 0);
@@ -132,11 +151,16 @@ export class Session extends Host {
     return { image };
   }
 
-  get waitsForLine() { return !this.isRunning && (this.machine.asks === ASKS.LINE || (this.takesLines && this.machine.asks === ASKS.KEY)); }
+  get waitsForLine() {
+    return !this.isRunning && (this.machine.asks === ASKS.LINE || (this.takesLines && this.machine.asks === ASKS.KEY));
+  }
   get waitsForKey() { return !this.isRunning && !this.takesLines && this.machine.asks === ASKS.KEY; }
-  // Whether a program asks for the line, and not the Forth itself. The Forth of an older page has the same depth of the return stack then.
+  // Whether a program asks for the line, and not the Forth itself. The Forth of an older page has the same depth of
+  // the return stack then.
   get waitsForAnswer() { return this.waitsForLine && this.isAnswer; }
-  get isAnswer() { return !this.isPrompt && (this.places.depth === undefined || this.machine.returns.length > this.places.depth); }
+  get isAnswer() {
+    return !this.isPrompt && (this.places.depth === undefined || this.machine.returns.length > this.places.depth);
+  }
   // Whether keys are typed in whole lines, as at a terminal: for an image that knows nothing of a page.
   get takesLines() { return this.isForeign && this.places.notes === undefined; }
   // Whether a key that is pressed is for the program.
@@ -173,13 +197,15 @@ export class Session extends Host {
     const { undos } = this.work, at = undos.map(({ what }) => what).lastIndexOf("line");
     if (at < 0) this.anew();
     while (at >= 0 && undos.length > at) this.work.undo();
-    this.view.note(`${why}. ${at < 0 ? "A new one starts; the screens are kept." : "All is as it was before that line."}`);
+    this.view.note(
+      `${why}. ${at < 0 ? "A new one starts; the screens are kept." : "All is as it was before that line."}`);
     if (at < 0) this.go();
   }
 
   drop(why) {
     const count = this.lines.length;
-    if (count && why) this.view.note(`${count} more ${count === 1 ? "line was" : "lines were"} not interpreted: ${why}.`);
+    if (count && why)
+      this.view.note(`${count} more ${count === 1 ? "line was" : "lines were"} not interpreted: ${why}.`);
     this.lines = [];
     this.keys = [];
   }
@@ -222,7 +248,8 @@ export class Session extends Host {
     if (this.isPrompt) this.lookAtHere();
     this.keys = [];
     if (!this.lines.length) return false;
-    const bytes = encode(this.lines[0]), { isPrompt } = this, most = isPrompt ? LONGEST_LINE : this.machine.field("asked");
+    const bytes = encode(this.lines[0]), { isPrompt } = this;
+    const most = isPrompt ? LONGEST_LINE : this.machine.field("asked");
     if (bytes.length > most) {
       this.drop(`a line here has at most ${most} bytes, and this one has ${bytes.length}`);
       return false;
@@ -239,12 +266,14 @@ export class Session extends Host {
   lookAtHere() {
     const { machine, isInside } = this;
     this.isInside = machine.cell(SYSTEM.dp) < machine.cell(SYSTEM.fence);
-    if (this.isInside && !isInside) this.view.note("HERE is inside the Forth, so what is compiled now overwrites it; UNDO goes back.");
+    if (this.isInside && !isInside)
+      this.view.note("HERE is inside the Forth, so what is compiled now overwrites it; UNDO goes back.");
   }
 
   // What KEY has left of a line that was typed is the next line.
   feedRest() {
-    const { keys } = this, most = this.machine.field("asked"), end = keys.indexOf(10), isWhole = end < most, bytes = Uint8Array.from(keys.splice(0, Math.min(end, most)));
+    const { keys } = this, most = this.machine.field("asked"), end = keys.indexOf(10), isWhole = end < most;
+    const bytes = Uint8Array.from(keys.splice(0, Math.min(end, most)));
     if (isWhole) keys.shift();
     this.answer(bytes, isWhole);
     return true;
@@ -278,7 +307,8 @@ export class Session extends Host {
     this.slice = Math.round(Math.min(20e6, Math.max(10000, this.slice * Math.min(2, SLICE / Math.max(took, 0.5)))));
   }
 
-  // Whether something has to wait until the run has stopped. This does not need BREAK, which may be gone if memory was overwritten.
+  // Whether something has to wait until the run has stopped. This does not need BREAK, which may be gone if memory was
+  // overwritten.
   waits(wish) {
     if (!this.isRunning) return false;
     this.drop("");
@@ -292,7 +322,8 @@ export class Session extends Host {
   async sleep(wait) {
     const until = performance.now() + wait;
     this.view.looks();
-    while (performance.now() < until && !this.isStopped && !this.wish) await new Promise((resolve) => setTimeout(resolve, Math.min(20, Math.max(1, until - performance.now()))));
+    while (performance.now() < until && !this.isStopped && !this.wish)
+      await new Promise((resolve) => setTimeout(resolve, Math.min(20, Math.max(1, until - performance.now()))));
     return !this.isStopped && !this.wish;
   }
 
@@ -320,7 +351,10 @@ export class Session extends Host {
     const { machine } = this, isFault = machine.field("halts") === HALTED_BY_FAULT;
     this.drop("the Forth had ended");
     if (this.outer) return this.leave("ended");
-    if (isFault) return void (this.wish = () => this.putBack(`Fault ${machine.field("fault")}, which no fault thread handled, has stopped the Forth`));
+    if (isFault)
+      return void (
+        this.wish = () => this.putBack(
+          `Fault ${machine.field("fault")}, which no fault thread handled, has stopped the Forth`));
     this.settle();
     this.anew();
     this.view.note("The Forth ended and started again: its words are gone, the screens are kept.");

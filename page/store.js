@@ -7,9 +7,11 @@ const range = (beginning) => IDBKeyRange.bound(beginning, `${beginning}\uffff`);
 const later = (milliseconds) => new Promise((resolve) => setTimeout(resolve, milliseconds));
 
 export class Store {
-  // place: which page's values these are, so that pages that were handed out separately don't mix. mine: this window's name, of the same length
-  // in all windows, so that a full browser has room for it in place of another one.
-  constructor(place) { Object.assign(this, { place, database: null, mine: `${Date.now()} ${Math.random().toFixed(16)}`, owned: "" }); }
+  // place: which page's values these are, so that pages that were handed out separately don't mix. mine: this window's
+  // name, of the same length in all windows, so that a full browser has room for it in place of another one.
+  constructor(place) {
+    Object.assign(this, { place, database: null, mine: `${Date.now()} ${Math.random().toFixed(16)}`, owned: "" });
+  }
 
   // Opens it; a browser that keeps nothing gives a store without values.
   static async open(place) {
@@ -29,8 +31,8 @@ export class Store {
     return store;
   }
 
-  // Becomes the owner of a work. The window that had it keeps all that it has, and lets go: it is asked by the browser's storage, and calls
-  // LOST. One that doesn't answer in a second loses the work.
+  // Becomes the owner of a work. The window that had it keeps all that it has, and lets go: it is asked by the
+  // browser's storage, and calls LOST. One that doesn't answer in a second loses the work.
   async claim(work, lost) {
     this.release();
     Object.assign(this, { owned: `${this.place}/owner/${work}`, lost });
@@ -54,7 +56,8 @@ export class Store {
         got();
       });
       setTimeout(() => isHeld || waiting.abort(), WAIT);
-      navigator.locks.request(name, { signal: waiting.signal }, hold).catch(() => (isHeld ? this.yield() : navigator.locks.request(name, { steal: true }, hold)))
+      navigator.locks.request(name, { signal: waiting.signal }, hold)
+        .catch(() => (isHeld ? this.yield() : navigator.locks.request(name, { steal: true }, hold)))
         .catch(() => (isHeld ? this.yield() : got()));
     });
   }
@@ -89,10 +92,12 @@ export class Store {
     });
   }
 
-  // Writes values all together, or none: "kept", "refused", or "lost" if another window has the work now: the one that is owned, or one that
-  // this window had before and nobody else since. A value of undefined removes the name, and all names that begin so if * is at its end.
+  // Writes values all together, or none: "kept", "refused", or "lost" if another window has the work now: the one that
+  // is owned, or one that this window had before and nobody else since. A value of undefined removes the name, and all
+  // names that begin so if * is at its end.
   async write(entries, earlier) {
-    const owner = earlier === undefined ? this.owned : `${this.place}/owner/${earlier}`, isClaimed = earlier === undefined ? this.isClaimed : !this.hasLast(owner);
+    const owner = earlier === undefined ? this.owned : `${this.place}/owner/${earlier}`;
+    const isClaimed = earlier === undefined ? this.isClaimed : !this.hasLast(owner);
     let isLost = false;
     const put = (kept, name, value) => {
       if (value !== undefined) kept.put(value, name);
@@ -120,17 +125,22 @@ export class Store {
   // The newest session that a page of version 2.0.0 kept with this disk: such a page's place was a sum of its disk.
   async elsewhere(work, disk) {
     const names = ((await this.ask("readonly", (kept) => kept.getAllKeys())) || { value: [] }).value, found = [];
-    for (const name of names.filter((one) => /^[0-9a-f]{16}$/.test(one.split("/")[0]) && one.slice(16) === `/session/${work}`))
+    for (const name of names.filter(
+           (one) => /^[0-9a-f]{16}$/.test(one.split("/")[0]) && one.slice(16) === `/session/${work}`))
       found.push(((await this.ask("readonly", (kept) => kept.get(name))) || {}).value);
     return found.filter((one) => one && one.name === disk).sort((one, other) => other.when - one.when)[0];
   }
 
   // The names that begin so, without that beginning; and their values, in the same order.
   async names(beginning) {
-    const full = `${this.place}/${beginning}`, answer = await this.ask("readonly", (kept) => kept.getAllKeys(range(full)));
+    const full = `${this.place}/${beginning}`;
+    const answer = await this.ask("readonly", (kept) => kept.getAllKeys(range(full)));
     return answer ? answer.value.map((name) => name.slice(full.length)) : [];
   }
-  async values(beginning) { return ((await this.ask("readonly", (kept) => kept.getAll(range(`${this.place}/${beginning}`)))) || { value: [] }).value; }
+  async values(beginning) {
+    return ((await this.ask("readonly", (kept) => kept.getAll(range(`${this.place}/${beginning}`)))) || { value: [] })
+      .value;
+  }
 
   // Whether this window was the last one that wanted a work, also where the database refused to note it.
   hasLast(owner) {
@@ -141,8 +151,8 @@ export class Store {
     }
   }
 
-  // The last state of a work, as the page is closed: a small place, written at once by its owner. Returns whether it is kept there; a state
-  // that is too big for it isn't.
+  // The last state of a work, as the page is closed: a small place, written at once by its owner. Returns whether it
+  // is kept there; a state that is too big for it isn't.
   putLast(work, value) {
     try {
       if (!this.hasLast(this.owned)) return false;

@@ -1,4 +1,5 @@
-// A screen of 24 rows and 80 columns for programs that move the cursor, with the codes that AT, PAGE and the tools send.
+// A screen of 24 rows and 80 columns for programs that move the cursor, with the codes that AT, PAGE and the tools
+// send.
 
 export const ROWS = 24, WIDTH = 80;
 const CODE = /^\x1b\[([0-9;]*)([A-Za-z])/;
@@ -36,7 +37,8 @@ export class Terminal {
 
   obey(letter, [first = 0, second = 0]) {
     if (letter === "H" || letter === "f") this.go((first || 1) - 1, (second || 1) - 1);
-    else if (MOVES[letter]) this.go(this.row + MOVES[letter][0] * (first || 1), this.column + MOVES[letter][1] * (first || 1));
+    else if (MOVES[letter])
+      this.go(this.row + MOVES[letter][0] * (first || 1), this.column + MOVES[letter][1] * (first || 1));
     else if (letter === "J" && first === 2) this.clear();
     else if (letter === "J") this.clearRest();
     else if (letter === "K") this.lines[this.row].length = Math.min(this.lines[this.row].length, this.column);

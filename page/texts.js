@@ -1,5 +1,5 @@
-// Text files as blocks, as commands/served/texts.py has them: each line that has words is a block from FIRST_TEXT on, so that BLK, >IN and view cells
-// are places in files. A file is known once it was opened, or dropped on the page.
+// Text files as blocks, as commands/served/texts.py has them: each line that has words is a block from FIRST_TEXT on,
+// so that BLK, >IN and view cells are places in files. A file is known once it was opened, or dropped on the page.
 
 import { encode, isSame } from "./bytes.js";
 import { DATA } from "./data.js";
@@ -20,14 +20,18 @@ const blanked = (bytes) => {
   return page;
 };
 
-// The lines of a text that have words: of each its file, its number and its bytes. A first line that begins with #! has none.
+// The lines of a text that have words: of each its file, its number and its bytes. A first line that begins with #!
+// has none.
 function* linesIn(name, content) {
-  if (UTF16.some((mark) => begins(content, mark))) throw new Unreadable(`${name} is a text in UTF-16; save it as UTF-8`);
+  if (UTF16.some((mark) => begins(content, mark)))
+    throw new Unreadable(`${name} is a text in UTF-16; save it as UTF-8`);
   let at = begins(content, BYTE_ORDER) ? BYTE_ORDER.length : 0;
   for (let number = 1; at < content.length; number++) {
-    const found = content.subarray(at).findIndex((byte) => byte === 10 || byte === 13), end = found < 0 ? content.length : at + found;
+    const found = content.subarray(at).findIndex((byte) => byte === 10 || byte === 13);
+    const end = found < 0 ? content.length : at + found;
     const text = trimmedEnd(content.slice(at, end).map((byte) => (byte === TAB_CODE ? SPACE_CODE : byte)));
-    if (text.length > PAGE_SIZE) throw new Unreadable(`${name}:${number}:${PAGE_SIZE + 1}: a line may have ${PAGE_SIZE} bytes; split it`);
+    if (text.length > PAGE_SIZE)
+      throw new Unreadable(`${name}:${number}:${PAGE_SIZE + 1}: a line may have ${PAGE_SIZE} bytes; split it`);
     if (text.length && !(number === 1 && begins(text, "#!"))) yield { name, number, text };
     at = end + (content[end] === 13 && content[end + 1] === 10 ? 2 : 1);
   }
@@ -40,7 +44,9 @@ export const endOfComment = (text) => text.indexOf(CLOSING) + 1;
 export function skipping() {
   let depth = 1;
   return (text) => {
-    for (const { 0: found, index } of Array.from(text, (byte) => String.fromCharCode(byte)).join("").matchAll(/[^ ]+/g)) {
+    for (const { 0: found, index } of Array.from(text, (byte) => String.fromCharCode(byte))
+      .join("")
+      .matchAll(/[^ ]+/g)) {
       const word = found.toUpperCase();
       if (word === "[IF]") depth++;
       else if (word === "[THEN]" || (word === "[ELSE]" && depth === 1)) depth--;
@@ -51,20 +57,26 @@ export function skipping() {
 }
 
 export class Texts {
-  // files: the known files, by name; read: those that were interpreted, in order; last: the last one that no other one read.
+  // files: the known files, by name; read: those that were interpreted, in order; last: the last one that no other one
+  // read.
   constructor({ files = [], read = [], last = "" } = {}) {
     Object.assign(this, { files: new Map(files), read: [], lines: [], pages: new Map(), last });
     for (const [name, content] of read) this.add(name, content);
   }
 
-  kept() { return { files: [...this.files], read: this.read.map(({ name, content }) => [name, content]), last: this.last }; }
+  kept() {
+    return { files: [...this.files], read: this.read.map(({ name, content }) => [name, content]), last: this.last };
+  }
 
-  // The blocks of a text's lines from now on, { first, count }: those that it has, or new ones. A typed line has no name.
+  // The blocks of a text's lines from now on, { first, count }: those that it has, or new ones. A typed line has no
+  // name.
   add(name, content) {
     let found = this.read.find((one) => one.name === name && isSame(one.content, content));
     if (!found) {
-      const isLine = !name || name === EVALUATED, lines = isLine ? [{ name, number: name ? 1 : 0, text: content }] : [...linesIn(name, content)];
-      if (this.lines.length + lines.length > MOST_TEXT_LINES) throw new Unreadable(`there is room for ${MOST_TEXT_LINES} lines of texts; start a new Forth`);
+      const isLine = !name || name === EVALUATED;
+      const lines = isLine ? [{ name, number: name ? 1 : 0, text: content }] : [...linesIn(name, content)];
+      if (this.lines.length + lines.length > MOST_TEXT_LINES)
+        throw new Unreadable(`there is room for ${MOST_TEXT_LINES} lines of texts; start a new Forth`);
       found = { name, content, first: FIRST_TEXT + this.lines.length, count: lines.length };
       this.read.push(found);
       this.lines = this.lines.concat(lines);
@@ -74,7 +86,9 @@ export class Texts {
   }
 
   // The name under which a file is known, or undefined: those that were opened, and those that come with the Forth.
-  find(name) { return [name, name.split("/").pop()].find((one) => this.files.has(one) || DATA.library[one] !== undefined); }
+  find(name) {
+    return [name, name.split("/").pop()].find((one) => this.files.has(one) || DATA.library[one] !== undefined);
+  }
 
   // Whether a file was read.
   isRead(name) { return this.read.some((one) => one.name === this.find(name)); }
@@ -100,7 +114,8 @@ export class Texts {
     return place && blanked(this.pages.get(block) || place.text);
   }
 
-  // Takes the lines after a block out, up to an end in one of them, as `endOf` finds it; whether there is one in the same text.
+  // Takes the lines after a block out, up to an end in one of them, as `endOf` finds it; whether there is one in the
+  // same text.
   takesUntil(block, endOf) {
     const began = this.place(block), taken = new Map();
     for (let at = block + 1, line = this.place(at); began && line; line = this.place(++at)) {

@@ -1,4 +1,5 @@
-// What was typed and shown, as texts of these kinds: typed, shown, fault, note (the page's own) and screen (where a program moves the cursor).
+// What was typed and shown, as texts of these kinds: typed, shown, fault, note (the page's own) and screen (where a
+// program moves the cursor).
 
 import { element } from "./bytes.js";
 import { Terminal, needsScreen } from "./terminal.js";
@@ -73,8 +74,10 @@ export class Transcript {
 
   // Makes the letters so small that a line of LIST fits, if they are still readable then.
   fit() {
-    const { place } = this, room = place.clientWidth - 20, { fontSize } = getComputedStyle(document.documentElement), most = 0.95 * parseFloat(fontSize);
-    if (room > 0) place.style.fontSize = `${Math.max(Math.min(most, SMALLEST), Math.min(most, room / (LISTED * WIDTH_OF_LETTER)))}px`;
+    const { place } = this, room = place.clientWidth - 20, { fontSize } = getComputedStyle(document.documentElement);
+    const most = 0.95 * parseFloat(fontSize);
+    const fitting = Math.min(most, room / (LISTED * WIDTH_OF_LETTER));
+    if (room > 0) place.style.fontSize = `${Math.max(Math.min(most, SMALLEST), fitting)}px`;
     this.toEnd();
   }
 
@@ -123,7 +126,11 @@ export class Transcript {
   // What was shown since the last line was typed, without that line.
   answer() {
     this.draw();
-    return this.texts.slice(Math.max(0, this.started)).filter(([kind]) => kind !== "typed" && kind !== "note").map(([, text]) => text).join("").trim();
+    return this.texts.slice(Math.max(0, this.started))
+      .filter(([kind]) => kind !== "typed" && kind !== "note")
+      .map(([, text]) => text)
+      .join("")
+      .trim();
   }
 
   text() {

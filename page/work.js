@@ -1,5 +1,5 @@
-// A person's work: its disks, the drafts of screens that don't fit, and its machine; what the browser keeps of it, and Undo. Nothing else
-// touches the store.
+// A person's work: its disks, the drafts of screens that don't fit, and its machine; what the browser keeps of it, and
+// Undo. Nothing else touches the store.
 
 import { fromBase64, isSame, toBase64 } from "./bytes.js";
 import { DATA } from "./data.js";
@@ -13,8 +13,13 @@ export const PLACED = "placed";
 
 const keyOf = ({ block, disk }) => `${block} ${disk}`;
 const pairs = (list, convert) => (list || []).map(([name, bytes]) => [String(name), convert(bytes)]);
-const converted = (state, convert) => ({ ...state, record: convert(state.record), outer: state.outer ? { ...state.outer, record: convert(state.outer.record) } : null,
-  sources: state.sources && { ...state.sources, files: pairs(state.sources.files, convert), read: pairs(state.sources.read, convert) } });
+const converted = (state, convert) => ({
+  ...state,
+  record: convert(state.record),
+  outer: state.outer ? { ...state.outer, record: convert(state.outer.record) } : null,
+  sources: state.sources &&
+    { ...state.sources, files: pairs(state.sources.files, convert), read: pairs(state.sources.read, convert) }
+});
 
 // A person's own disk; under a name of one of the page's disks it is all that the person changed in this edition.
 function ownDisk(name, bytes) {
@@ -37,7 +42,16 @@ export class Work {
   get names() { return [...this.disks.keys()].sort(); }
 
   empty() {
-    Object.assign(this, { disks: new Map(), stored: new Map(), flying: new Map(), drafts: new Map(), undos: [], redos: [], saved: 0, version: DATA.version });
+    Object.assign(this, {
+      disks: new Map(),
+      stored: new Map(),
+      flying: new Map(),
+      drafts: new Map(),
+      undos: [],
+      redos: [],
+      saved: 0,
+      version: DATA.version
+    });
   }
 
   // Opens the work of that name: what was kept of it besides its disks, or null for a new one.
@@ -49,14 +63,21 @@ export class Work {
     if (left) Object.assign(this, left.own);
     this.left.delete(name);
     this.isOurs = true;
-    if (kept) Object.assign(this, { step: kept.step || 0, saved: kept.saved || 0, version: kept.version || null, drafts: new Map(kept.drafts || []) });
+    if (kept)
+      Object.assign(this, {
+        step: kept.step || 0,
+        saved: kept.saved || 0,
+        version: kept.version || null,
+        drafts: new Map(kept.drafts || [])
+      });
     this.disk = this.disks.get(kept && kept.disk) || this.disks.get(DATA.first);
     if (this.stored.get(this.disk.name) === this.disk) await this.fetch(this.disk);
     else await this.load(this.disk);
     return kept;
   }
 
-  // The disk that is in comes to the page's edition when the machine goes on: blocks that it has changed belong to the disk as it was.
+  // The disk that is in comes to the page's edition when the machine goes on: blocks that it has changed belong to the
+  // disk as it was.
   goOn() {
     const { disk, session } = this;
     if (!DATA.disks[disk.name] || (disk.base && disk.base.join() === builtIn(disk.name).base.join())) return;
@@ -83,20 +104,25 @@ export class Work {
     for (const name of this.names) if (!last.names.includes(name) && !DATA.disks[name]) this.disks.delete(name);
     for (const name of last.fresh) if (DATA.disks[name]) this.disks.set(name, unread(name));
     for (const [name, count, base, piece, text] of last.pieces) {
-      const known = this.disks.get(name), isIt = known && known.count === count && (known.bytes || this.stored.get(name) === known);
+      const known = this.disks.get(name);
+      const isIt = known && known.count === count && (known.bytes || this.stored.get(name) === known);
       const disk = isIt ? await this.fetch(known) : new Disk(name, new Uint8Array(count * PAGE_SIZE), count, base);
       this.disks.set(name, Object.assign(disk, { base }));
       disk.bytes.set(fromBase64(text), piece * PIECE * PAGE_SIZE);
       disk.dirty.add(piece);
     }
-    for (const name of new Set(last.pieces.map(([one]) => one))) if (DATA.disks[name] && name !== last.disk) this.renew(this.disks.get(name));
+    for (const name of new Set(last.pieces.map(([one]) => one)))
+      if (DATA.disks[name] && name !== last.disk) this.renew(this.disks.get(name));
     return converted(last, fromBase64);
   }
 
   // What a page of version 2.0.0 or before has kept: a state with one disk, and other disks that all people share.
   async older() {
-    const { store, name } = this, kept = (await store.get(`session/${name}`)) || (await store.elsewhere(name, DATA.first)), text = store.last(name, "last");
-    const last = text && { ...converted(text, fromBase64), disk: fromBase64(text.disk) }, state = last && !(kept && kept.when >= last.when) ? last : kept;
+    const { store, name } = this;
+    const kept = (await store.get(`session/${name}`)) || (await store.elsewhere(name, DATA.first));
+    const text = store.last(name, "last");
+    const last = text && { ...converted(text, fromBase64), disk: fromBase64(text.disk) };
+    const state = last && !(kept && kept.when >= last.when) ? last : kept;
     for (const one of await store.names("disk/")) this.take(one, await store.get(`disk/${one}`));
     if (state) this.take(state.name, state.disk, true);
     return state ? { ...state, disk: String(state.name) } : null;
@@ -120,8 +146,11 @@ export class Work {
 
   async fetch(disk) {
     if (disk.bytes) return disk;
-    const bytes = new Uint8Array(disk.count * PAGE_SIZE), pieces = await this.store.values(`blocks/${this.name}/${disk.name}/`);
-    for (const piece of disk.pieces) if (pieces[piece]) bytes.set(pieces[piece].subarray(0, bytes.length - piece * PIECE * PAGE_SIZE), piece * PIECE * PAGE_SIZE);
+    const bytes = new Uint8Array(disk.count * PAGE_SIZE);
+    const pieces = await this.store.values(`blocks/${this.name}/${disk.name}/`);
+    for (const piece of disk.pieces)
+      if (pieces[piece])
+        bytes.set(pieces[piece].subarray(0, bytes.length - piece * PIECE * PAGE_SIZE), piece * PIECE * PAGE_SIZE);
     return Object.assign(disk, { bytes });
   }
 
@@ -130,19 +159,26 @@ export class Work {
     const theirs = builtIn(disk.name), made = merged(disk, theirs), { base, bytes, count } = disk;
     this.disks.set(disk.name, disk);
     if (!made) return;
-    const isStrange = areStrangers(disk, theirs), isLost = made.kept.length || (!base && made.taken.length) || isStrange;
+    const isStrange = areStrangers(disk, theirs);
+    const isLost = made.kept.length || (!base && made.taken.length) || isStrange;
     const before = isLost && this.freeName(disk.name);
     if (before) this.disks.set(before, new Disk(before, bytes, count));
     if (before) for (const entry of [...this.undos, ...this.redos]) entry.disks.push([before, this.disks.get(before)]);
-    Object.assign(disk, isStrange ? theirs : made.disk, { dirty: new Set((isStrange ? theirs : made.disk).pieces), isFresh: false });
-    const what = isStrange ? "is another disk in this page" : `has a new edition in this page: screens ${made.taken.join(" ") || "none"} are new, and what you changed stays`;
-    if (made.taken.length || before) this.page.note(`${disk.name} ${what}.${before ? ` Your disk as it was is ${before}.` : ""}`);
+    Object.assign(
+      disk, isStrange ? theirs : made.disk,
+      { dirty: new Set((isStrange ? theirs : made.disk).pieces), isFresh: false });
+    const what = isStrange
+      ? "is another disk in this page"
+      : `has a new edition in this page: screens ${made.taken.join(" ") || "none"} are new, and what you changed stays`;
+    if (made.taken.length || before)
+      this.page.note(`${disk.name} ${what}.${before ? ` Your disk as it was is ${before}.` : ""}`);
   }
 
   // A name that no disk has: mine 2.blk.
   freeName(name) {
     const [, stem, ending] = /^(.*?)(\.\w+)?$/.exec(name);
-    for (let number = 2; ; number++) if (!this.disks.has(`${stem} ${number}${ending || ""}`)) return `${stem} ${number}${ending || ""}`;
+    for (let number = 2;; number++)
+      if (!this.disks.has(`${stem} ${number}${ending || ""}`)) return `${stem} ${number}${ending || ""}`;
   }
 
   // Puts in the disk of that name; returns whether it is another one.
@@ -165,7 +201,8 @@ export class Work {
   }
 
   refuse() {
-    this.page.note(this.isOurs ? "The Forth is busy: stop it first." : "This window only shows your work: another one has it now.");
+    this.page.note(
+      this.isOurs ? "The Forth is busy: stop it first." : "This window only shows your work: another one has it now.");
     this.page.opened();
     return false;
   }
@@ -181,7 +218,9 @@ export class Work {
 
   async replace(disk, isAsked) {
     const both = this.freeName(disk.name), answers = [`Keep both: it becomes ${both}`, "Replace the one here"];
-    const answer = isAsked ? await this.page.ask(`There is a disk ${disk.name} here already, with other screens.`, answers) : answers[1];
+    const answer = isAsked
+      ? await this.page.ask(`There is a disk ${disk.name} here already, with other screens.`, answers)
+      : answers[1];
     if (!answer) return false;
     if (answer === answers[0]) Object.assign(disk, { name: both, base: null });
     return this.change(disk);
@@ -190,15 +229,19 @@ export class Work {
   // Screens of a text go onto the disk that is in. Asks if others are replaced.
   async merge(name, screens) {
     const { disk, session } = this;
-    const others = screens.filter(({ block, page }) => block < disk.count && linesOf(session.page(block)).join("") && !isSame(session.page(block), page));
-    const question = `${name} replaces ${others.length} of the screens of ${disk.name}: ${others.slice(0, 12).map(({ block }) => block).join(" ")}${others.length > 12 ? " …" : ""}.`;
+    const others = screens.filter(
+      ({ block, page }) => block < disk.count && linesOf(session.page(block)).join("") &&
+        !isSame(session.page(block), page));
+    const named = others.slice(0, 12).map(({ block }) => block).join(" ") + (others.length > 12 ? " …" : "");
+    const question = `${name} replaces ${others.length} of the screens of ${disk.name}: ${named}.`;
     if (others.length && !(await this.page.ask(question, ["Replace them"]))) return false;
     return this.place(new Map(screens.map(({ block, page }) => [block, page])));
   }
 
   // Puts pages at their blocks of the disk that is in, which grows if it must: one act for Undo.
   place(pages, act = () => {}) {
-    const { disk, session } = this, count = [...pages.keys()].reduce((most, block) => Math.max(most, block + 1), disk.count);
+    const { disk, session } = this;
+    const count = [...pages.keys()].reduce((most, block) => Math.max(most, block + 1), disk.count);
     if (session.isRunning || !this.isOurs) return this.refuse();
     session.settle();
     const grown = count > disk.count ? Disk.blank(disk.name, count) : disk;
@@ -210,22 +253,28 @@ export class Work {
     }, PLACED);
   }
 
-  // Moves a screen to another number: those between make room, and drafts stay with their screens. One after the last screen is a new one.
+  // Moves a screen to another number: those between make room, and drafts stay with their screens. One after the last
+  // screen is a new one.
   move(from, to) {
-    const { disk, session } = this, pages = new Map(), blank = new Uint8Array(PAGE_SIZE).fill(32), step = Math.sign(from - to);
+    const { disk, session } = this, pages = new Map(), blank = new Uint8Array(PAGE_SIZE).fill(32);
+    const step = Math.sign(from - to);
     const target = (block) => (block === from ? to : block + step);
-    for (let block = Math.min(from, to); block <= Math.max(from, to); block++) pages.set(target(block), block < disk.count ? session.page(block).slice() : blank);
+    for (let block = Math.min(from, to); block <= Math.max(from, to); block++)
+      pages.set(target(block), block < disk.count ? session.page(block).slice() : blank);
     return this.place(pages, () => {
       const own = [...this.drafts.values()].filter((draft) => draft.disk === disk.name && pages.has(draft.block));
       for (const draft of own) this.drafts.delete(keyOf(draft));
-      for (const draft of own) this.drafts.set(keyOf({ ...draft, block: target(draft.block) }), { ...draft, block: target(draft.block) });
+      for (const draft of own)
+        this.drafts.set(keyOf({ ...draft, block: target(draft.block) }), { ...draft, block: target(draft.block) });
     });
   }
 
-  // The next blank screen from one on, which may be after the last one; null if a disk can't have more. A disk that was replaced by a smaller one
-  // may have left drafts after its end.
+  // The next blank screen from one on, which may be after the last one; null if a disk can't have more. A disk that
+  // was replaced by a smaller one may have left drafts after its end.
   blankFrom(block) {
-    const { disk, session } = this, isBlank = (one) => !this.draft(one) && (one >= disk.count || session.page(one).every((byte) => byte === 32 || byte === 0));
+    const { disk, session } = this;
+    const isBlank = (one) => !this.draft(one) &&
+      (one >= disk.count || session.page(one).every((byte) => byte === 32 || byte === 0));
     while (!isBlank(block)) block++;
     return block < MOST_SCREENS ? block : null;
   }
@@ -256,25 +305,33 @@ export class Work {
     if (name) for (const draft of own) this.drafts.set(keyOf({ ...draft, disk: name }), { ...draft, disk: name });
   }
 
-  // Goes on with a whole session from a file: its machine takes the place of the one here, its disks come to those that are here.
+  // Goes on with a whole session from a file: its machine takes the place of the one here, its disks come to those
+  // that are here.
   async adopt(file, kept) {
-    const given = Object.entries({ ...kept.disks, [kept.name]: kept.disk }).map(([name, bytes]) => ownDisk(name, bytes)), others = [];
+    const theirs = Object.entries({ ...kept.disks, [kept.name]: kept.disk });
+    const given = theirs.map(([name, bytes]) => ownDisk(name, bytes));
+    const others = [];
     this.session.settle();
     for (const disk of given) {
       const known = this.disks.get(disk.name);
       if (known && !isSame((await this.load(known)).bytes, disk.bytes)) others.push(disk);
     }
     const answers = others.length ? ["Open it, and keep both", "Open it, and replace mine"] : ["Open it"];
-    const about = others.length ? ` Its ${others.map((disk) => disk.name).join(", ")} has other screens than yours.` : "";
-    const answer = await this.page.ask(`Open ${file}? Its words and its stack take the place of yours.${about} Undo brings yours back.`, answers);
+    const about = others.length
+      ? ` Its ${others.map((disk) => disk.name).join(", ")} has other screens than yours.`
+      : "";
+    const answer = await this.page.ask(
+      `Open ${file}? Its words and its stack take the place of yours.${about} Undo brings yours back.`, answers);
     if (!answer || this.session.isRunning || !this.isOurs) return answer ? this.refuse() : false;
     this.session.settle();
     const before = this.snapshot("file");
     if (!this.session.resume(kept)) return null;
     this.push(before);
     for (const disk of given) {
-      const { name } = disk, drafts = (kept.drafts || []).map(([, draft]) => draft).filter((draft) => draft.disk === name);
-      if (others.includes(disk) && answer === answers[0]) Object.assign(disk, { name: this.freeName(name), base: null });
+      const { name } = disk;
+      const drafts = (kept.drafts || []).map(([, draft]) => draft).filter((draft) => draft.disk === name);
+      if (others.includes(disk) && answer === answers[0])
+        Object.assign(disk, { name: this.freeName(name), base: null });
       if (others.includes(disk) || !this.disks.has(name)) this.disks.set(disk.name, disk);
       for (const draft of drafts) this.drafts.set(keyOf({ ...draft, disk: disk.name }), { ...draft, disk: disk.name });
     }
@@ -289,7 +346,13 @@ export class Work {
     this.session.settle();
     const own = [...this.disks.values()].filter((disk) => disk !== this.disk && !disk.isFresh), disks = {};
     for (const disk of own) disks[disk.name] = toBase64((await this.load(disk)).bytes);
-    return { format: "forth83", ...converted(this.session.kept(), toBase64), name: this.disk.name, disk: toBase64(this.disk.bytes), disks, drafts: [...this.drafts],
+    return {
+      format: "forth83",
+      ...converted(this.session.kept(), toBase64),
+      name: this.disk.name,
+      disk: toBase64(this.disk.bytes),
+      disks,
+      drafts: [...this.drafts],
       version: this.version };
   }
 
@@ -309,11 +372,14 @@ export class Work {
     return draft ? draft.text.split("\n") : linesOf(this.session.page(block));
   }
 
-  // Edits a screen: LINES are what is in the frame now, and BEFORE what it showed; lines that nobody edited stay as they are on the disk. A
-  // text that doesn't fit is a draft until it does. Returns what is wrong, or null.
+  // Edits a screen: LINES are what is in the frame now, and BEFORE what it showed; lines that nobody edited stay as
+  // they are on the disk. A text that doesn't fit is a draft until it does. Returns what is wrong, or null.
   edit(block, lines, before, line) {
-    const draft = { disk: this.disk.name, block, text: lines.join("\n"), before }, own = linesOf(this.session.page(block));
-    const made = pageOf(lines.map((one, at) => (one.trimEnd() === before[at] && at < own.length ? own[at] : one)), this.session.page(block));
+    const draft = { disk: this.disk.name, block, text: lines.join("\n"), before };
+    const own = linesOf(this.session.page(block));
+    const made = pageOf(
+      lines.map((one, at) => (one.trimEnd() === before[at] && at < own.length ? own[at] : one)),
+      this.session.page(block));
     this.remember(`screen ${block} line ${line}`);
     if (made.wrong) this.drafts.set(keyOf(draft), draft);
     else {
@@ -327,19 +393,31 @@ export class Work {
   // All as it is now, for Undo; blocks that change later are noted with it.
   snapshot(what) {
     const { session, disk, drafts, disks, version } = this, { machine, places, outer, program, texts } = session;
-    return { what, when: Date.now(), record: machine.copy(), machine: { places: { ...places }, outer, program, texts }, disk, version,
-      disks: [...disks], drafts: new Map(drafts), mark: this.page.mark(), blocks: new Map() };
+    return {
+      what,
+      when: Date.now(),
+      record: machine.copy(),
+      machine: { places: { ...places }, outer, program, texts },
+      disk,
+      version,
+      disks: [...disks],
+      drafts: new Map(drafts),
+      mark: this.page.mark(),
+      blocks: new Map()
+    };
   }
 
   // Remembers all as it is: before a line, and before a screen is edited after a pause or in another line.
   remember(what) {
-    const last = this.undos[this.undos.length - 1], isMore = last && last.what === what && what.startsWith("screen") && Date.now() - last.when < PAUSE;
+    const last = this.undos[this.undos.length - 1];
+    const isMore = last && last.what === what && what.startsWith("screen") && Date.now() - last.when < PAUSE;
     if (isMore && !this.redos.length) last.when = Date.now();
     else this.push(this.snapshot(what));
   }
 
   push(entry) {
-    const size = ({ record, blocks }) => record.length + [...blocks.values()].reduce((sum, own) => sum + own.size * PAGE_SIZE, 0);
+    const size = ({ record, blocks }) => record.length +
+      [...blocks.values()].reduce((sum, own) => sum + own.size * PAGE_SIZE, 0);
     this.redos = [];
     this.undos.push(entry);
     let left = MOST_UNDONE;
@@ -359,8 +437,10 @@ export class Work {
       for (const [block, page] of blocks) disk.put(block, page);
     }
     this[to].push(now);
-    Object.assign(this, { disks: new Map(entry.disks), disk: entry.disk, drafts: new Map(entry.drafts), version: entry.version });
-    for (const [name, disk] of this.disks) Object.assign(disk, { name, base: disk.base || (DATA.disks[name] && disk.bytes ? builtIn(name).base : null) });
+    Object.assign(
+      this, { disks: new Map(entry.disks), disk: entry.disk, drafts: new Map(entry.drafts), version: entry.version });
+    for (const [name, disk] of this.disks)
+      Object.assign(disk, { name, base: disk.base || (DATA.disks[name] && disk.bytes ? builtIn(name).base : null) });
     session.machine.restore(entry.record);
     Object.assign(session, entry.machine, session.fresh());
     this.page.back(entry.mark);
@@ -370,7 +450,8 @@ export class Work {
   // What the store lacks of a work, as entries, and as [disk, piece]; and which disks it has no more.
   changes({ name: work, stored, disks, flying } = this) {
     const entries = [], pieces = [];
-    for (const [name, disk] of stored) if (disks.get(name) !== disk) entries.push([`disks/${work}/${name}`], [`blocks/${work}/${name}/*`]);
+    for (const [name, disk] of stored)
+      if (disks.get(name) !== disk) entries.push([`disks/${work}/${name}`], [`blocks/${work}/${name}/*`]);
     for (const [name, disk] of disks) {
       const isStored = stored.get(name) === disk;
       if (!disk.bytes || (!isStored && disk.isFresh)) continue;
@@ -384,7 +465,15 @@ export class Work {
   }
 
   state() {
-    return { ...this.session.kept(), ...this.page.seen(), disk: this.disk.name, drafts: [...this.drafts], version: this.version, saved: this.saved, step: ++this.step };
+    return {
+      ...this.session.kept(),
+      ...this.page.seen(),
+      disk: this.disk.name,
+      drafts: [...this.drafts],
+      version: this.version,
+      saved: this.saved,
+      step: ++this.step
+    };
   }
 
   // Keeps it soon, or now; one after the other.
@@ -397,7 +486,8 @@ export class Work {
 
   async keepNow() {
     if (!this.isOurs) return "lost";
-    const { entries, pieces } = this.changes(), disks = new Map(this.disks), has = new Set(pieces.map(([disk]) => disk));
+    const { entries, pieces } = this.changes(), disks = new Map(this.disks);
+    const has = new Set(pieces.map(([disk]) => disk));
     this.flying = new Map([...has].map((disk) => [disk, disk.dirty]));
     for (const disk of has) disk.dirty = new Set();
     const answer = await this.store.write([...entries, [`work/${this.name}`, this.state()]]);
@@ -422,11 +512,18 @@ export class Work {
     }
   }
 
-  // As the page is closed or hidden: keeps in a smaller place what the database may no longer accept; returns whether that has it.
+  // As the page is closed or hidden: keeps in a smaller place what the database may no longer accept; returns whether
+  // that has it.
   keepAtOnce() {
     if (!this.isOurs) return false;
-    const pieces = this.changes().pieces.map(([disk, piece]) => [disk.name, disk.count, disk.base, piece, toBase64(disk.piece(piece))]);
-    const isKept = this.store.putLast(this.name, { ...converted(this.state(), toBase64), names: this.names, fresh: this.names.filter((name) => this.disks.get(name).isFresh), pieces });
+    const pieces = this.changes().pieces.map(
+      ([disk, piece]) => [disk.name, disk.count, disk.base, piece, toBase64(disk.piece(piece))]);
+    const isKept = this.store.putLast(this.name, {
+      ...converted(this.state(), toBase64),
+      names: this.names,
+      fresh: this.names.filter((name) => this.disks.get(name).isFresh),
+      pieces
+    });
     this.keep();
     return isKept;
   }
@@ -448,7 +545,14 @@ export class Work {
   }
 
   // The names of all whose work is here.
-  async people() { return [...new Set([this.name, "", ...(await this.store.names("work/")), ...(await this.store.names("session/")), ...this.left.keys()])].sort(); }
+  async people() {
+    return [
+      ...new Set([
+        this.name, "", ...(await this.store.names("work/")), ...(await this.store.names("session/")),
+        ...this.left.keys()
+      ])
+    ].sort();
+  }
 
   // Settings of this browser, which belong to no work.
   setting(name) { return this.store.get(name); }
@@ -458,9 +562,14 @@ export class Work {
 // What a file of a whole session has; or null.
 export function sessionOf(text) {
   try {
-    const kept = JSON.parse(text), disks = Object.entries(kept.disks || {}).map(([name, bytes]) => [name, fromBase64(bytes)]), disk = fromBase64(kept.disk);
-    const isWhole = [disk, ...disks.map(([, bytes]) => bytes)].every((bytes) => bytes.length && bytes.length % PAGE_SIZE === 0);
-    return isWhole ? { ...converted(kept, fromBase64), name: String(kept.name), disk, disks: Object.fromEntries(disks) } : null;
+    const kept = JSON.parse(text);
+    const disks = Object.entries(kept.disks || {}).map(([name, bytes]) => [name, fromBase64(bytes)]);
+    const disk = fromBase64(kept.disk);
+    const isWhole = [disk, ...disks.map(([, bytes]) => bytes)].every(
+      (bytes) => bytes.length && bytes.length % PAGE_SIZE === 0);
+    return isWhole
+      ? { ...converted(kept, fromBase64), name: String(kept.name), disk, disks: Object.fromEntries(disks) }
+      : null;
   } catch {
     return null;
   }
