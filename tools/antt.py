@@ -5,12 +5,23 @@ from typing import Dict, List, NamedTuple, Optional, Tuple
 TOKEN = re.compile(r'\s+|(?P<token>"(?:[^"\\]|\\.)*"|\[\]|[()\[\]{},;]|λ|\.(?=\S)|\.|[^\s()\[\]{},;."λ]+)')
 NUMBER = re.compile(r"\d[\d_]*$")
 
-# How tightly the operators bind, and whether they group to the right. All that have the same number are read in turn.
-BINDS: Dict[str, Tuple[int, bool]] = {
-    "→": (1, True), "↔": (2, False), "⊎": (3, True), "×": (4, True), "≡": (10, False), "≢": (10, False), "<": (10, False),
-    "≤": (10, False), "<ℤ": (10, False), "≤ℤ": (10, False), "||": (20, True), "&&": (30, True), "==": (40, False), "∷": (50, True),
-    "++": (50, True), "▸": (60, False), "▸▸": (60, False), "+": (65, False), "-": (65, False), "+ℤ": (65, False), "-ℤ": (65, False),
-    "*": (70, False), "/": (70, False), "%": (70, False), "*ℤ": (70, False), "^": (75, True)}
+# How tightly the operators bind, and whether they group to the right. Those of a line are read in turn.
+LEVELS: Tuple[Tuple[str, int, bool], ...] = (
+    ("→", 1, True),
+    ("↔", 2, False),
+    ("⊎", 3, True),
+    ("×", 4, True),
+    ("≡ ≢ < ≤ <ℤ ≤ℤ", 10, False),
+    ("||", 20, True),
+    ("&&", 30, True),
+    ("==", 40, False),
+    ("∷ ++", 50, True),
+    ("▸ ▸▸", 60, False),
+    ("+ - +ℤ -ℤ", 65, False),
+    ("* / % *ℤ", 70, False),
+    ("^", 75, True),
+)
+BINDS: Dict[str, Tuple[int, bool]] = {sign: (power, to_right) for signs, power, to_right in LEVELS for sign in signs.split()}
 CLOSES = {")", "]", "}", ",", ";", "=", "↦", "|", "then", "else", "in", ":", "where", "as"}
 
 
@@ -128,7 +139,7 @@ class Reader:
         place = self.at + 1
         while place < len(self.tokens) and re.match(r"[^\W\d][\w'-]*$", self.tokens[place]):
             place += 1
-        return self.peek() in ("(", "{") and place > self.at + 1 and self.tokens[place:place + 1] == [":"]
+        return self.peek() in ("(", "{") and place > self.at + 1 and self.tokens[place : place + 1] == [":"]
 
     def binder(self) -> Node:
         closes = {"(": ")", "{": "}"}[self.take()]
@@ -227,7 +238,7 @@ def clause_of(text: str) -> Clause:
         if token == "=" and not depth:
             break
     left = Reader(tokens[:place]).tree()
-    right = Reader(tokens[place + 1:])
+    right = Reader(tokens[place + 1 :])
     made = right.tree()
     if right.peek():
         raise Unknown(f"{right.peek()} is not expected")

@@ -13,6 +13,7 @@ ROW = re.compile(r"^\| `([^`]+)` \| (.+) \|$", re.M)
 
 class Source(NamedTuple):
     """A file of a crate: its path within the crate, and its text."""
+
     path: str
     text: str
 
@@ -23,10 +24,10 @@ def first_sentence(text: str, mark: str) -> str:
     for line in text.splitlines():
         if not line.startswith(f"{mark} "):
             break
-        lines.append(line[len(mark):].strip())
+        lines.append(line[len(mark) :].strip())
     whole = " ".join(lines)
     end = re.search(r"\.(?= [A-Z`])", whole)
-    sentence = whole[:end.end()] if end else whole
+    sentence = whole[: end.end()] if end else whole
     return sentence if not sentence or sentence.endswith((".", ";")) else f"{sentence}."
 
 

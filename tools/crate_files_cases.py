@@ -19,8 +19,10 @@ SOURCES = [
     files.Source("src/lib.rt", "//! A | B.\n"),
 ]
 README = f"# see\n\n{files.BEGINS}\n\n| file | what is in it |\n|---|---|\n| `specs/Cell.antt` | By hand. |\n| `src/lib.rt` | Old. |\n\n{files.ENDS}\n\nMore.\n"
-WANTED = (f"# see\n\n{files.BEGINS}\n\n| file | what is in it |\n|---|---|\n| `specs/Seen.antt` | What it keeps. |\n"
-          f"| `specs/Cell.antt` | By hand. |\n| `src/lib.rt` | A \\| B. |\n\n{files.ENDS}\n\nMore.\n")
+WANTED = (
+    f"# see\n\n{files.BEGINS}\n\n| file | what is in it |\n|---|---|\n| `specs/Seen.antt` | What it keeps. |\n"
+    f"| `specs/Cell.antt` | By hand. |\n| `src/lib.rt` | A \\| B. |\n\n{files.ENDS}\n\nMore.\n"
+)
 
 
 def wrong() -> List[str]:

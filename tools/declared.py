@@ -21,7 +21,7 @@ def first_sentence(comment: str) -> str:
     """The first sentence of a comment's lines."""
     text = " ".join(line.strip()[3:].strip() for line in comment.splitlines())
     end = re.search(r"\.(?= |$)", text)
-    return text[:end.end()] if end else text
+    return text[: end.end()] if end else text
 
 
 def parts_of(kind: str, body: str) -> Tuple[str, ...]:

@@ -14,11 +14,12 @@ Line = Tuple[int, bool, str]
 
 def unescaped(text: str) -> bytes:
     """The bytes of the text between the first quote and the last one."""
-    inner = text[text.index('"') + 1:text.rindex('"')]
+    inner = text[text.index('"') + 1 : text.rindex('"')]
     plain = {"r": b"\r", "n": b"\n", "0": b"\0"}
 
     def byte(found: "re.Match[str]") -> bytes:
         return bytes([int(found[2], 16)]) if found[2] else plain.get(found[3], found[3].encode()) if found[3] else found[0].encode()
+
     return b"".join(byte(it) for it in re.finditer(r"(\\x([0-9A-F]{2})|\\(.)|.)", inner, re.S))
 
 
@@ -149,14 +150,14 @@ class State:
         pages = [bytearray(1024) for _ in range(self.parts["block_count"])]
         for block, first, count, byte in self.blocks:
             if block < len(pages):
-                pages[block][first:first + count] = bytes([byte]) * len(pages[block][first:first + count])
+                pages[block][first : first + count] = bytes([byte]) * len(pages[block][first : first + count])
         return tuple(map(bytes, pages))
 
     def machine(self) -> Machine:
         """The machine of the image that memory's front is."""
         pages = self.pages()
         disk = runnable.record(blocks=pages or b"", coming=tuple(call in self.fails for call in range(64)))
-        return Machine(bytes(self.memory[:self.numbers["size"]]), self.numbers["entry"], len(self.parts["buffers"]), disk)
+        return Machine(bytes(self.memory[: self.numbers["size"]]), self.numbers["entry"], len(self.parts["buffers"]), disk)
 
 
 def number(names: Dict[str, int], word: str) -> int:
@@ -327,8 +328,9 @@ class Text:
         aim = single.state.f_parts if single else want.whole()
         blocks = (machine.disk.f_blocks, want.pages() or b"") if machine else (b"", b"")
         title = f"{self.name}:{place}" + "".join(f" {name} {value}" for name, value in self.chosen.items())
-        return Case(title, (came, machines.parts_text(parts), parts.f_memory, blocks[0]),
-                    (wanted, machines.parts_text(aim, None if single else want.order), aim.f_memory, blocks[1]))
+        return Case(
+            title, (came, machines.parts_text(parts), parts.f_memory, blocks[0]), (wanted, machines.parts_text(aim, None if single else want.order), aim.f_memory, blocks[1])
+        )
 
 
 def row_line(line: str) -> Tuple[str, str, str]:

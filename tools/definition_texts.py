@@ -125,6 +125,6 @@ def see(memory: bytes, name: bytes) -> str:
     fault = defined("see.Naming.first_fault")(memory, link, name, words)
     if fault != NONE:
         return f"refused: {' '.join(map(str, fault[1]))}"
-    if not defined("see.Naming.IsReadable")(memory, link, name, words) or not defined("see.Reading.AreCells")(words):
+    if not defined("see.Naming.IsReadable")(memory, link, name, words) or not defined("see.ReadAgain.AreCells")(words):
         return "refused: by IsReadable it can't be read again"
     return str(defined("see.Printing.text")(memory, link, name, body[1]).decode("ascii", "replace"))

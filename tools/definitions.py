@@ -73,8 +73,7 @@ def module_of(crate: str, name: str, text: str) -> Module:
             pieces.append((started, []))
         if pieces:
             pieces[-1][1].append(line)
-    made = [Definition(crate, name, title, "\n".join(lines), tuple(filter(None, (constructor(line) for line in lines))))
-            for title, lines in pieces]
+    made = [Definition(crate, name, title, "\n".join(lines), tuple(filter(None, (constructor(line) for line in lines)))) for title, lines in pieces]
     return Module(made, imports_of(text))
 
 
@@ -171,7 +170,7 @@ def clauses_of(crate: str, file: str, function: str, *names: str) -> Tuple[str, 
     head = re.search(rf"^ *(?:pub )?(?:extern \"C\" )?fn {function}\b", text, re.M)
     if head is None:
         raise ValueError(f"{crate}/src/{file} has no function {function}")
-    rest = text[head.start():]
+    rest = text[head.start() :]
     body = re.search(r"^ *\{$", rest, re.M)
     lines = (line for line in (rest[: body.start()] if body else rest).splitlines() if not line.strip().startswith("//"))
     clauses = re.split(r"^ *(?=requires\b|ensures\b)", "\n".join(lines), flags=re.M)[1:]

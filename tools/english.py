@@ -16,6 +16,7 @@ LIMITS = ROOT / "tests/sources/english_limits.txt"
 
 class Word(NamedTuple):
     """What is counted, as a pattern, and what to write instead."""
+
     pattern: str
     plain: str
 
@@ -45,6 +46,7 @@ WORDS: Dict[str, Word] = {
 
 class Allowed(NamedTuple):
     """A phrase that isn't counted, in the files that match, with the reason."""
+
     phrase: str
     files: str
     reason: str
@@ -159,5 +161,4 @@ def limits_of(text: str) -> Dict[str, int]:
 def too_many(sums: Dict[str, int], limits: Dict[str, int]) -> List[str]:
     """The folders that have more than their limit; one that has no limit may have none."""
     listed = "tests/sources/check-english --files lists them"
-    return [f"{folder} has {number} words of the idiom, and may have {limits.get(folder, 0)}; {listed}"
-            for folder, number in sums.items() if number > limits.get(folder, 0)]
+    return [f"{folder} has {number} words of the idiom, and may have {limits.get(folder, 0)}; {listed}" for folder, number in sums.items() if number > limits.get(folder, 0)]

@@ -27,6 +27,7 @@ def once(make: Callable[[], Any]) -> Callable[[], Any]:
         if not kept:
             kept.append(make())
         return kept[0]
+
     return value
 
 
@@ -44,6 +45,7 @@ def remembered(does: Callable[[Any], Any], is_late: bool) -> Callable[[Any], Any
                 kept.clear()
             kept[id(given)] = (given, does(passed))
         return kept[id(given)][1]
+
     return value
 
 
@@ -244,7 +246,7 @@ class Translation:
         if node.kind == "apply":
             called = self.callee(parts[0], names)
             late = (False, *self.runnable.lates(called)) if called and not self.constructor(parts[0], names) else ()
-        sure = (one for place, one in enumerate(parts) if late[place:place + 1] != (True,))
+        sure = (one for place, one in enumerate(parts) if late[place : place + 1] != (True,))
         return frozenset().union(*(self.needed(one, names) for one in sure))
 
     # A definition.
@@ -381,8 +383,16 @@ class Translation:
     def value(self, node: Node, names: Names, out: Lines) -> str:
         """A tree as a Python expression; what it needs before is written."""
         kinds: Dict[str, Callable[[Node, Names, Lines], str]] = {
-            "name": self.name, "apply": self.apply, "lambda": self.function, "record": self.record, "field": self.field,
-            "let": self.apart, "elim": self.apart, "bind": self.statement, "operator": self.operator}
+            "name": self.name,
+            "apply": self.apply,
+            "lambda": self.function,
+            "record": self.record,
+            "field": self.field,
+            "let": self.apart,
+            "elim": self.apart,
+            "bind": self.statement,
+            "operator": self.operator,
+        }
         if node.kind in kinds:
             return kinds[node.kind](node, names, out)
         parts = [self.value(one, names, out) for one in node.parts]
@@ -483,13 +493,12 @@ class Translation:
 
     def given(self, does: str, late: Tuple[bool, ...], parts: List[Node], names: Names, out: Lines) -> str:
         """A function with the arguments that are given; it is a function of the others, or what it answers gets the rest."""
-        values = [self.late(one, names, out) if is_late else self.value(one, names, out)
-                  for one, is_late in zip(parts, [*late, *(False for _ in parts)])]
+        values = [self.late(one, names, out) if is_late else self.value(one, names, out) for one, is_late in zip(parts, [*late, *(False for _ in parts)])]
         if len(values) >= len(late):
-            return self.called(f"{does}({', '.join(values[:len(late)])})", values[len(late):])
+            return self.called(f"{does}({', '.join(values[:len(late)])})", values[len(late) :])
         kept = [self.fresh("kept") for _ in values]
-        others = [self.fresh("other") for _ in late[len(values):]]
-        passed = [f"lambda: {other}" if is_late else other for other, is_late in zip(others, late[len(values):])]
+        others = [self.fresh("other") for _ in late[len(values) :]]
+        passed = [f"lambda: {other}" if is_late else other for other, is_late in zip(others, late[len(values) :])]
         partial = "".join(f"lambda {other}: " for other in others) + f"{does}({', '.join(kept + passed)})"
         return f"(lambda {', '.join(kept)}: {partial})({', '.join(values)})" if kept else f"({partial})"
 

@@ -61,7 +61,7 @@ def with_item(items: Any, place: int, item: Any) -> Any:
     if place >= len(items):
         return items
     if type(items) is bytes and type(item) is int and item < 256:
-        return items[:place] + bytes((item,)) + items[place + 1:]
+        return items[:place] + bytes((item,)) + items[place + 1 :]
     return append(take(place, items), cons(item, drop(place + 1, items)))
 
 
@@ -149,7 +149,7 @@ WORDS: Dict[str, Word] = {
     "position_or_len": Word(2, lambda test, xs: prefix(lambda x: not test(x), xs), "position_or_len test xs = prefix_len (λ x. not (test x)) xs"),
     "take_while": Word(2, lambda test, xs: take(prefix(test, xs), xs), "take_while test xs = take (prefix_len test xs) xs"),
     "bytes_eq": Word(2, lambda xs, ys: xs == ys, "bytes_eq xs ys: both have the same bytes"),
-    "codes": Word(1, lambda text: text.encode(), "codes \"..\": the bytes of a text"),
+    "codes": Word(1, lambda text: text.encode(), 'codes "..": the bytes of a text'),
     "signed_decimal": Word(1, lambda z: str(z).encode(), "signed_decimal z: the digits of z in base 10, after a - where it is below 0"),
     "little_bytes": Word(2, lambda n, x: x.to_bytes(n, "little"), "little_bytes n x: the n bytes of the number x, the lowest first"),
     "digits_of": Word(2, digits, "digits_of b n: the digits of n in base b, the highest first; none for 0"),
@@ -165,31 +165,72 @@ WORDS: Dict[str, Word] = {
 
 # Words that definitions cite and that nothing runs here: std's statements alone.
 OTHERS: Dict[str, str] = {
-    "Bool": "the two values true and false", "true": "a Bool", "false": "a Bool", "zero": "0", "suc": "suc n = n + 1",
-    "List": "List A: the lists of values of A", "Option": "Option A: None, and Some x for each x of A", "Some": "an Option", "None": "an Option",
-    "Result": "Result A E: Ok x for each x of A, and Err e for each e of E", "Ok": "a Result", "Err": "a Result",
-    "Vec": "a vector; v.items is the list of its items", "String": "a text of the code", "Global": "where memory comes from", "Bor": "a loan; x.now is the value",
+    "Bool": "the two values true and false",
+    "true": "a Bool",
+    "false": "a Bool",
+    "zero": "0",
+    "suc": "suc n = n + 1",
+    "List": "List A: the lists of values of A",
+    "Option": "Option A: None, and Some x for each x of A",
+    "Some": "an Option",
+    "None": "an Option",
+    "Result": "Result A E: Ok x for each x of A, and Err e for each e of E",
+    "Ok": "a Result",
+    "Err": "a Result",
+    "Vec": "a vector; v.items is the list of its items",
+    "String": "a text of the code",
+    "Global": "where memory comes from",
+    "Bor": "a loan; x.now is the value",
     "string_bytes": "string_bytes s: the bytes of a text",
-    "IfOk": "IfOk r P: where r is Ok x, P x", "IfErr": "IfErr r P: where r is Err e, P e", "OnOk": "OnOk r P: where r is Ok x, P",
-    "OnErr": "OnErr r P: where r is Err e, P", "IsOk": "IsOk r: r is Ok x for some x", "IsOkAnd": "IsOkAnd r P: r is Ok x, and P x",
-    "IsErrOf": "IsErrOf r e = r ≡ Err e", "MatchResult": "MatchResult (Ok x) P Q = P x; MatchResult (Err e) P Q = Q e",
-    "IfSome": "IfSome o P: where o is Some x, P x", "IsSomeAnd": "IsSomeAnd o P: o is Some x, and P x", "IsNone": "IsNone o: o is None",
-    "MatchOption": "MatchOption (Some x) P Q = P x; MatchOption None P Q = Q", "option_map": "option_map f None = None; option_map f (Some x) = Some (f x)",
-    "AllPairs": "AllPairs R xs: R x y of each item x of xs and each later item y", "Contains": "Contains xs x: x is an item of xs",
-    "count_by": "count_by p xs: how many items pass the test p", "slice_range": "slice_range xs a b = take (b - a) (drop a xs)",
-    "slice_split": "slice_split p xs: the parts of xs between the items that pass p", "lines": "lines bs: the lines of bytes, without their ends",
-    "Keeps": "Keeps old new: known bytes (Some xs) stay as they were", "Appends": "Appends old new bs: known bytes grow by bs at the end",
-    "Consumes": "Consumes old new bs: known bytes begin with bs, and lose them", "IsAtEnd": "IsAtEnd o: no known byte is left",
+    "IfOk": "IfOk r P: where r is Ok x, P x",
+    "IfErr": "IfErr r P: where r is Err e, P e",
+    "OnOk": "OnOk r P: where r is Ok x, P",
+    "OnErr": "OnErr r P: where r is Err e, P",
+    "IsOk": "IsOk r: r is Ok x for some x",
+    "IsOkAnd": "IsOkAnd r P: r is Ok x, and P x",
+    "IsErrOf": "IsErrOf r e = r ≡ Err e",
+    "MatchResult": "MatchResult (Ok x) P Q = P x; MatchResult (Err e) P Q = Q e",
+    "IfSome": "IfSome o P: where o is Some x, P x",
+    "IsSomeAnd": "IsSomeAnd o P: o is Some x, and P x",
+    "IsNone": "IsNone o: o is None",
+    "MatchOption": "MatchOption (Some x) P Q = P x; MatchOption None P Q = Q",
+    "option_map": "option_map f None = None; option_map f (Some x) = Some (f x)",
+    "AllPairs": "AllPairs R xs: R x y of each item x of xs and each later item y",
+    "Contains": "Contains xs x: x is an item of xs",
+    "count_by": "count_by p xs: how many items pass the test p",
+    "slice_range": "slice_range xs a b = take (b - a) (drop a xs)",
+    "slice_split": "slice_split p xs: the parts of xs between the items that pass p",
+    "lines": "lines bs: the lines of bytes, without their ends",
+    "Keeps": "Keeps old new: known bytes (Some xs) stay as they were",
+    "Appends": "Appends old new bs: known bytes grow by bs at the end",
+    "Consumes": "Consumes old new bs: known bytes begin with bs, and lose them",
+    "IsAtEnd": "IsAtEnd o: no known byte is left",
     "WriteAppends": "WriteAppends old new r bs: at Ok n known bytes grow by the first n of bs, at Err they stay",
-    "decimal": "decimal n: the digits of n in base 10", "IsNumeral": "IsNumeral base ds: ds are digits of the base, one at least",
-    "digits_value": "digits_value base ds: the number that digits write", "without_leading_plus": "without_leading_plus bs: bs, without a + at its beginning"}
+    "decimal": "decimal n: the digits of n in base 10",
+    "IsNumeral": "IsNumeral base ds: ds are digits of the base, one at least",
+    "digits_value": "digits_value base ds: the number that digits write",
+    "without_leading_plus": "without_leading_plus bs: bs, without a + at its beginning",
+}
 
 # What the operators are in Python; `quotient` and `remainder` by 0 are 0 and the number.
-OPERATORS: Dict[str, str] = {
-    "+": "({} + {})", "-": "max(0, {} - {})", "*": "({} * {})", "/": "quotient({}, {})", "%": "remainder({}, {})", "^": "({} ** {})",
-    "+ℤ": "({} + {})", "-ℤ": "({} - {})", "*ℤ": "({} * {})", "==": "({} == {})", "&&": "({} and {})", "||": "({} or {})",
-    "∷": "cons({}, {})", "++": "append({}, {})", "≡": "({} == {})", "≢": "({} != {})", "<": "({} < {})", "≤": "({} <= {})",
-    "<ℤ": "({} < {})", "≤ℤ": "({} <= {})", "×": "({} and {})", "⊎": "({} or {})", "↔": "({} == {})"}
+FORMS: Dict[str, str] = {
+    "+ +ℤ": "({} + {})",
+    "-": "max(0, {} - {})",
+    "-ℤ": "({} - {})",
+    "* *ℤ": "({} * {})",
+    "/": "quotient({}, {})",
+    "%": "remainder({}, {})",
+    "^": "({} ** {})",
+    "== ≡ ↔": "({} == {})",
+    "≢": "({} != {})",
+    "< <ℤ": "({} < {})",
+    "≤ ≤ℤ": "({} <= {})",
+    "&& ×": "({} and {})",
+    "|| ⊎": "({} or {})",
+    "∷": "cons({}, {})",
+    "++": "append({}, {})",
+}
+OPERATORS: Dict[str, str] = {sign: form for signs, form in FORMS.items() for sign in signs.split()}
 
 # Std's statement of each word.
 STATEMENTS: Dict[str, str] = {**{name: word.says for name, word in WORDS.items()}, **OTHERS}

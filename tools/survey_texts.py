@@ -12,13 +12,12 @@ DIALECTS, GLOSSARIES = ROOT / "screens/dialects", ROOT / "data/glossaries"
 CRATE = ROOT / "crates/survey_tables/src"
 NAMES = {"fig": "fig-FORTH", "f79": "Forth-79", "f83": "F83", "poly": "polyFORTH"}
 # What systems had beyond these, each with the dialect that it goes back to.
-SYSTEMS = {"mms": ("MMSFORTH", "f79"), "mvp": ("MVP-FORTH", "f79"), "hs": ("HS/FORTH", "f79"), "volks": ("volksFORTH", "f83"),
-           "rsc": ("RSC-FORTH", "fig")}
+SYSTEMS = {"mms": ("MMSFORTH", "f79"), "mvp": ("MVP-FORTH", "f79"), "hs": ("HS/FORTH", "f79"), "volks": ("volksFORTH", "f83"), "rsc": ("RSC-FORTH", "fig")}
 KEYS = (*NAMES, *SYSTEMS)
 MAKING = ("VARIABLE", "CONSTANT", "CREATE", "2VARIABLE", "2CONSTANT")
 WIDTH = 96
 # Sums of screens that were among the dialects once: devices at addresses. A file of blocks may have them still, and they are not its owner's.
-EARLIER = (0x5b9f6adc78ce5c60, 0xdeb4da5a6b4406f7)
+EARLIER = (0x5B9F6ADC78CE5C60, 0xDEB4DA5A6B4406F7)
 HEAD = re.compile(r"\A((?:# .*\n)+)")
 
 
@@ -29,8 +28,7 @@ def text_of(key: str) -> str:
 def screens(key: str) -> Dict[int, bytes]:
     """A text's screens by their numbers, as they are in a file of blocks."""
     pieces = dict(piece.split("\n", 1) for piece in f"\n{text_of(key)}".split("\n% screen ")[1:])
-    return {int(number): "".join(line.ljust(64) for line in piece.rstrip("\n").split("\n")).ljust(1024).encode("ascii")
-            for number, piece in pieces.items()}
+    return {int(number): "".join(line.ljust(64) for line in piece.rstrip("\n").split("\n")).ljust(1024).encode("ascii") for number, piece in pieces.items()}
 
 
 def hidden(key: str) -> Set[str]:
@@ -72,9 +70,9 @@ def tool_names() -> Set[str]:
 
 def sum_of(screen: bytes) -> int:
     """FNV-1a with 64 bits."""
-    total = 0xcbf29ce484222325
+    total = 0xCBF29CE484222325
     for byte in screen:
-        total = (total ^ byte) * 0x100000001b3 % 2**64
+        total = (total ^ byte) * 0x100000001B3 % 2**64
     return total
 
 

@@ -78,7 +78,7 @@ def ends_head(line: str, indent: str) -> bool:
     """Whether a function's head ends with this line."""
     text = line.rstrip()
     is_clause = re.match(r" *(requires|ensures)\b", text) is not None
-    return text in (f"{indent}{{", f"{indent}{{}}") or (not is_clause and text.endswith(("{", "{}", ";")))
+    return text in (f"{indent}{{", f"{indent}{{}}") or text.endswith("};") or (not is_clause and text.endswith(("{", "{}", ";")))
 
 
 def functions_in(crate: str, file: str, text: str) -> Iterator[Function]:

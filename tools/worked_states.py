@@ -76,8 +76,9 @@ def buffers(state: definition_cases.State) -> str:
     if order == [f"{slot}:-" for slot in reversed(range(count))]:
         return f"start {count}"
     entries = (re.match(r"(\d+):(\d+|-)(\*?)$", one) for one in order)
-    return " ∷ ".join([*(f"record {{ slot = {it[1]}; block = {'None' if it[2] == '-' else f'Some {it[2]}'}; updated = {'true' if it[3] else 'false'} }}"
-                         for it in entries if it), "[]"])
+    return " ∷ ".join(
+        [*(f"record {{ slot = {it[1]}; block = {'None' if it[2] == '-' else f'Some {it[2]}'}; updated = {'true' if it[3] else 'false'} }}" for it in entries if it), "[]"]
+    )
 
 
 def outcome(said: str) -> str:
