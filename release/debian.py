@@ -14,8 +14,10 @@ SUITE = "stable"
 RUNTIME = f"libforth83-{running.ABI}"
 # Debian's names of the targets that it has packages for, and of their folders of libraries.
 ARCHITECTURES = {
-    "x86_64-linux": ("amd64", "x86_64-linux-gnu"), "aarch64-linux": ("arm64", "aarch64-linux-gnu"),
-    "armv7-linux": ("armhf", "arm-linux-gnueabihf"), "riscv64-linux": ("riscv64", "riscv64-linux-gnu"),
+    "x86_64-linux": ("amd64", "x86_64-linux-gnu"),
+    "aarch64-linux": ("arm64", "aarch64-linux-gnu"),
+    "armv7-linux": ("armhf", "arm-linux-gnueabihf"),
+    "riscv64-linux": ("riscv64", "riscv64-linux-gnu"),
 }
 # Who makes packages for others names himself by Debian's variables; .invalid is a name that never is a host's.
 MAINTAINER = f"{os.environ.get('DEBFULLNAME', 'Jaurimet maintainers')} <{os.environ.get('DEBEMAIL', 'jaurimet@maintainers.invalid')}>"
@@ -152,8 +154,10 @@ def library(source: Source, folder: pathlib.Path, target: str) -> List[Package]:
         shutil.copytree(folder / name, documents / ("." if name == "docs" else name), dirs_exist_ok=True)
     what = [LIBRARY.format(what=f"This package has {it}.", state=source.state) for it in ("the shared library", "the header, the static library and examples")]
     same, summary = "Multi-Arch: same\n", "Forth-83 machine for other programs"
-    return [Package(RUNTIME, source.number, architecture, "libs", "libc6 (>= 2.14)", summary, what[0], runs, same),
-            Package("libforth83-dev", source.number, architecture, "libdevel", f"{RUNTIME} (= {source.number})", f"{summary} (development)", what[1], makes, same)]
+    return [
+        Package(RUNTIME, source.number, architecture, "libs", "libc6 (>= 2.14)", summary, what[0], runs, same),
+        Package("libforth83-dev", source.number, architecture, "libdevel", f"{RUNTIME} (= {source.number})", f"{summary} (development)", what[1], makes, same),
+    ]
 
 
 def python(source: Source) -> Package:
@@ -183,8 +187,17 @@ def control(package: Package) -> None:
     files = [it for it in archives.members(package.root) if it.is_file() and not it.is_symlink() and package.root / "DEBIAN" not in it.parents]
     sums = [subprocess.run(["md5sum", str(it.relative_to(package.root))], cwd=package.root, stdout=subprocess.PIPE, check=True).stdout for it in files]
     size = sum((it.stat().st_size + 1023) // 1024 for it in files)
-    fields = {"Package": package.name, "Source": "jaurimet", "Version": package.version, "Section": package.section, "Priority": "optional",
-              "Architecture": package.architecture, "Maintainer": MAINTAINER, "Installed-Size": size, "Depends": package.depends}
+    fields = {
+        "Package": package.name,
+        "Source": "jaurimet",
+        "Version": package.version,
+        "Section": package.section,
+        "Priority": "optional",
+        "Architecture": package.architecture,
+        "Maintainer": MAINTAINER,
+        "Installed-Size": size,
+        "Depends": package.depends,
+    }
     text = "".join(f"{name}: {value}\n" for name, value in fields.items() if name != "Source" or package.name != "jaurimet")
     put(package.root / "DEBIAN/control", f"{text}{package.more}Description: {package.summary}\n{package.text}".encode())
     put(package.root / "DEBIAN/md5sums", b"".join(sums))
@@ -205,8 +218,12 @@ def make(package: Package, source: Source, out: pathlib.Path) -> pathlib.Path:
     documents_of(package, source)
     control(package)
     tidy(package.root, source.when)
-    subprocess.run(["dpkg-deb", "--root-owner-group", "-Zxz", "--threads-max=1", "--build", str(package.root), str(made)],
-                   env={**os.environ, "SOURCE_DATE_EPOCH": str(source.when)}, stdout=subprocess.DEVNULL, check=True)
+    subprocess.run(
+        ["dpkg-deb", "--root-owner-group", "-Zxz", "--threads-max=1", "--build", str(package.root), str(made)],
+        env={**os.environ, "SOURCE_DATE_EPOCH": str(source.when)},
+        stdout=subprocess.DEVNULL,
+        check=True,
+    )
     return made
 
 

@@ -69,8 +69,8 @@ def has_compiler(target: str) -> bool:
     return True
 
 
-def compile_to(target: str, made: pathlib.Path, *words: object) -> None:
-    """Compiles something for a target, without what its makers alone can read."""
+def compile_to(made: pathlib.Path, *words: object) -> None:
+    """Compiles something, without what its makers alone can read."""
     made.parent.mkdir(exist_ok=True)
     called([str(word) for word in (*words, "-s", "-o", made)])
 
@@ -79,8 +79,16 @@ def put_hosts(folder: pathlib.Path, target: str, kept: pathlib.Path) -> str:
     """The hosts in C, compiled over the library, with the images of sessions; what the page says of them."""
     suffix = ".exe" if target.endswith("windows") else ""
     for name, options in HOSTS.items():
-        compile_to(target, folder / "bin" / (name + suffix), *target_runs.RUNNERS[target].compiler, *target_runs.STRICT, *STATIC.get(target, []), *options,
-                   f"-I{folder / 'include'}", ROOT / f"examples/{name}.c", folder / "lib/libforth83.a")
+        compile_to(
+            folder / "bin" / (name + suffix),
+            *target_runs.RUNNERS[target].compiler,
+            *target_runs.STRICT,
+            *STATIC.get(target, []),
+            *options,
+            f"-I{folder / 'include'}",
+            ROOT / f"examples/{name}.c",
+            folder / "lib/libforth83.a",
+        )
     shutil.copytree(kept, folder / "bin/images" / image.sum_beside())
     return FILES_SAY.format(suffix=suffix)
 
@@ -89,8 +97,18 @@ def put_shared(folder: pathlib.Path, target: str) -> None:
     """The shared library, with the name by which programs find it."""
     exports = folder / "exports"
     exports.write_text(EXPORTS, encoding="ascii")
-    compile_to(target, folder / "lib" / SHARED, target_runs.RUNNERS[target].compiler[0], "-shared", f"-Wl,-soname,{SHARED}", f"-Wl,--version-script={exports}",
-               "-Wl,-z,relro,-z,now,-z,noexecstack", "-Wl,--build-id=none", "-Wl,--whole-archive", folder / "lib/libforth83.a", "-Wl,--no-whole-archive")
+    compile_to(
+        folder / "lib" / SHARED,
+        target_runs.RUNNERS[target].compiler[0],
+        "-shared",
+        f"-Wl,-soname,{SHARED}",
+        f"-Wl,--version-script={exports}",
+        "-Wl,-z,relro,-z,now,-z,noexecstack",
+        "-Wl,--build-id=none",
+        "-Wl,--whole-archive",
+        folder / "lib/libforth83.a",
+        "-Wl,--no-whole-archive",
+    )
     exports.unlink()
     (folder / "lib/libforth83.so").symlink_to(SHARED)
 
@@ -108,8 +126,7 @@ def put_board(folder: pathlib.Path, name: str) -> str:
 def drop_dead_links(folder: pathlib.Path) -> None:
     """Links to pages that the archive does not have become their words."""
     for page in folder.rglob("*.md"):
-        text = re.sub(r"\[([^]]+)\]\((?!https?:)([^)#]+)(#[^)]*)?\)", lambda found: found[0 if (page.parent / found[2]).exists() else 1],
-                      page.read_text(encoding="utf-8"))
+        text = re.sub(r"\[([^]]+)\]\((?!https?:)([^)#]+)(#[^)]*)?\)", lambda found: found[0 if (page.parent / found[2]).exists() else 1], page.read_text(encoding="utf-8"))
         page.write_text(text, encoding="utf-8")
 
 

@@ -7,7 +7,8 @@ const MOST = 30;
 function found(words, sections) {
   const asked = words.toLowerCase().split(/\s+/).filter((word) => word);
   if (!asked.length) return [];
-  const having = sections.filter(({ title, text }) => asked.every((word) => `${title} ${text}`.toLowerCase().includes(word)));
+  const having = sections.filter(
+    ({ title, text }) => asked.every((word) => `${title} ${text}`.toLowerCase().includes(word)));
   const isTitled = ({ title }) => asked.every((word) => title.toLowerCase().includes(word));
   return [...having.filter(isTitled), ...having.filter((one) => !isTitled(one))];
 }
