@@ -64,6 +64,14 @@ one as an IMD.
   forth: atr.dsk: it is a disk of an Atari (ATR); import it with --format atr* (glob)
   [1]
 
+The program has each format that the help of `import` names.
+
+  $ named() { launched import --help | sed -n 's/^Formats: \(.*\) and /\1 /p' | tr -d ,; }
+  $ named | wc -w
+  16
+  $ for name in $(named); do launched import --format "$name" atr.dsk formats.blk; done | grep 'is no format'
+  [1]
+
 The files of disks are listed, and come out as they went in; a disk that needs a tool says which, if it is not installed. A name of no file makes nothing.
 
   $ inside() {
