@@ -58,6 +58,39 @@ Letters with a high bit, in texts or in words; names in several cases:
   $ new "$(part 0)"'\n% screen 1\n( Two )\n: Valve 5 ; VALVE valve LEVEL !\n'; survey
   $ said 'names in upper and lower case, which only F83 treats as the same: Valve as VALVE'
 
+What is in comments and texts, dates, machine code and what follows EXIT are no words, also after words that the Forth lacks. In a definition CODE and LABEL
+are words as others, and the source goes on after EXIT. F83 has (S, and neither an assembler here nor $" and S":
+
+  $ cat > text << 'END'
+  > % screen 0
+  > ( The flock )  .( birds )
+  > (S this old program counts sheep )
+  > : FLOCK  " rams rest" $" ewes graze" ," lambs" 2DROP FIRE ;
+  > : GOATS  S" dogs bark" TYPE ." wolves howl" ABORT" foxes" ;
+  > 12/31/84 D. 6:30 D. 1,024 D. 0-9 D. -$1F . 0FFH . FLOCK EXIT
+  > and notes about the barn
+  > % screen 1
+  > ( The shears )
+  > ASCII hay EMIT CONTROL straw EMIT [CHAR] oats . CHAR corn .
+  > CODE SHEAR ax pop, bx push, END-CODE
+  > LABEL SORT cx push, C;
+  > : GATES  CODE LABEL POST 0= IF EXIT THEN HINGE ;
+  > SHEAR \S and a recipe
+  > % screen 2
+  > ( The gates )
+  > GATES --> and a song
+  > END
+  $ rm t.blk && forth83 screens text t.blk && survey
+  $ sed -n '/^unknown words/,$p' said
+  unknown words: 4;* (glob)
+    $"                  1  screen 0 line 2
+    FIRE                1  screen 0 line 2
+    POST                1  screen 1 line 4
+    HINGE               1  screen 1 line 4
+    CODE                2  screen 1 line 2* (glob)
+    LABEL               2  screen 1 line 3* (glob)
+    S"                  1  screen 0 line 3* (glob)
+
 Addresses of other machines:
 
   $ new "$(part 0)"'\n% screen 1\n( Two )\n: RED 2 53280 C! ;\n: PIXEL 15360 + C! ;\n: BACK-ONE 5 BLOCK 2 - @ ;\n'; survey
