@@ -130,6 +130,19 @@ At a terminal one line shows the progress of a build.
   $ python3 -c 'import pty, sys; pty.spawn(sys.argv[1:])' tree/forth83 --proved < /dev/null > said
   $ said $'\r''forth83: 2 of 3 crates are proved, 0 minutes so far' && said ninth
 
+Crates are proved after those that they use, in whatever order crates.txt lists them. (survey came before containers once, so no proof from nothing ended.)
+
+  $ mkdir list
+  $ printf 'survey: tables containers\nforth83: survey\ntables: thiserror\nother: tables\ncontainers:\n' > list/crates.txt
+  $ "$root/build/sources" crates list
+  tables thiserror
+  containers
+  survey tables containers
+  forth83 survey
+  $ "$root/build/sources" crates > crates
+  $ awk 'NR == FNR { crate[$1]; next } { for (at = 2; at <= NF; at++) if ($at in crate && !($at in before)) print $1, $at; before[$1] }' crates crates
+  $ awk 'END { exit NR < 40 }' crates
+
 The times of docs/INSTALL.md are those of build/times.
 
   $ grep -v '^#' "$root/build/times" | while read -r what processors minutes; do
