@@ -7,11 +7,14 @@ use Rattle.clap.specs.Walk.{Row, Text, first_of, one_of}
 use Rattle.clap.specs.Simple.{subcommand_of}
 use Rattle.command_words.specs.CommandLine.{forth83}
 use Rattle.command_words.specs.declared.BuildWords.{BuildWords}
+use Rattle.command_words.specs.declared.DebugWords.{DebugWords}
 use Rattle.command_words.specs.declared.GuessWords.{GuessWords}
 use Rattle.command_words.specs.declared.JudgeWords.{JudgeWords}
 use Rattle.command_words.specs.declared.LoadWords.{LoadWords}
+use Rattle.command_words.specs.declared.RunWords.{RunWords}
 use Rattle.command_words.specs.declared.ScreenRange.{ScreenRange}
 use Rattle.command_words.specs.declared.SurveyWords.{SurveyWords}
+use Rattle.command_words.specs.declared.UpgradeWords.{UpgradeWords}
 use Rattle.command_words.specs.declared.containers.ContainerWords.{ContainerWords}
 use Rattle.command_words.specs.declared.containers.DiskWords.{DiskWords}
 use Rattle.command_words.specs.declared.containers.UnpackWords.{UnpackWords}
@@ -47,12 +50,29 @@ pub record IsBuild (rows : List Row) (w : BuildWords) : Type 0 where
   pub buffers : number_in (codes "buffers") rows ≡ Some w.buffers
   pub place : IsFlag rows (codes "where") w.shows_place
 
+pub record IsUpgrade (rows : List Row) (w : UpgradeWords) : Type 0 where
+  pub image : IsText rows (codes "IMAGE") w.image
+  pub out : IsText rows (codes "OUT") w.out
+  pub buffers : number_in (codes "buffers") rows ≡ w.buffers
+
 pub record IsLoad (rows : List Row) (w : LoadWords) : Type 0 where
   pub image : IsText rows (codes "IMAGE") w.image
   pub screens : AreScreens rows w.screens
   pub out : IsText rows (codes "OUT") w.out
   pub limit : number_in (codes "limit") rows ≡ Some w.limit
   pub place : IsFlag rows (codes "where") w.shows_place
+
+pub record IsRun (rows : List Row) (w : RunWords) : Type 0 where
+  pub image : IsText rows (codes "IMAGE") w.image
+  pub blocks : IsTextIfGiven rows (codes "BLOCKS") w.blocks
+  pub limit : number_in (codes "limit") rows ≡ Some w.limit
+
+pub record IsDebug (rows : List Row) (w : DebugWords) : Type 0 where
+  pub image : IsText rows (codes "IMAGE") w.image
+  pub name : IsText rows (codes "NAME") w.name
+  pub trace : IsText rows (codes "TRACE") w.trace
+  pub blocks : IsTextIfGiven rows (codes "BLOCKS") w.blocks
+  pub limit : number_in (codes "limit") rows ≡ Some w.limit
 
 pub record IsSurvey (rows : List Row) (w : SurveyWords) : Type 0 where
   pub image : IsText rows (codes "IMAGE") w.image
@@ -100,19 +120,15 @@ pub record IsGuess (rows : List Row) (w : GuessWords) : Type 0 where
 abbrev pub Says : List Row → Words → Type 0
 Says rows (words.Kernel blocks) = IsText rows (codes "BLOCKS") blocks
 Says rows (words.Build w) = IsBuild rows w
-Says rows (words.Upgrade image out buffers) =
-    IsText rows (codes "IMAGE") image × IsText rows (codes "OUT") out × (number_in (codes "buffers") rows ≡ buffers)
+Says rows (words.Upgrade w) = IsUpgrade rows w
 Says rows (words.Load w) = IsLoad rows w
 Says rows (words.Text w) = AreScreens rows w
 Says rows (words.Screens text blocks) = IsText rows (codes "TEXT") text × IsText rows (codes "BLOCKS") blocks
 Says rows (words.New blocks count) = IsText rows (codes "BLOCKS") blocks × (number_in (codes "N") rows ≡ Some count)
 Says rows (words.Import w) = IsContainer rows w × IsFlag rows (codes "clean") w.cleans
 Says rows (words.Export w) = IsContainer rows w
-Says rows (words.Run image blocks limit) =
-    IsText rows (codes "IMAGE") image × IsTextIfGiven rows (codes "BLOCKS") blocks × (number_in (codes "limit") rows ≡ Some limit)
-Says rows (words.Debug image name trace blocks limit) =
-    IsText rows (codes "IMAGE") image × IsText rows (codes "NAME") name × IsText rows (codes "TRACE") trace
-    × IsTextIfGiven rows (codes "BLOCKS") blocks × (number_in (codes "limit") rows ≡ Some limit)
+Says rows (words.Run w) = IsRun rows w
+Says rows (words.Debug w) = IsDebug rows w
 Says rows (words.See image name) = IsText rows (codes "IMAGE") image × IsText rows (codes "NAME") name
 Says rows (words.View image name) = IsText rows (codes "IMAGE") image × IsText rows (codes "NAME") name
 Says rows (words.Serve image blocks) = IsText rows (codes "IMAGE") image × IsTextIfGiven rows (codes "BLOCKS") blocks
@@ -128,15 +144,15 @@ Says rows (words.Headings text) = IsText rows (codes "TEXT") text
 abbrev pub name_of : Words → Text
 name_of (words.Kernel blocks) = codes "kernel"
 name_of (words.Build w) = codes "build"
-name_of (words.Upgrade image out buffers) = codes "upgrade"
+name_of (words.Upgrade w) = codes "upgrade"
 name_of (words.Load w) = codes "load"
 name_of (words.Text w) = codes "text"
 name_of (words.Screens text blocks) = codes "screens"
 name_of (words.New blocks count) = codes "new"
 name_of (words.Import w) = codes "import"
 name_of (words.Export w) = codes "export"
-name_of (words.Run image blocks limit) = codes "run"
-name_of (words.Debug image name trace blocks limit) = codes "debug"
+name_of (words.Run w) = codes "run"
+name_of (words.Debug w) = codes "debug"
 name_of (words.See image name) = codes "see"
 name_of (words.View image name) = codes "view"
 name_of (words.Serve image blocks) = codes "serve"

@@ -29,12 +29,7 @@ pub enum Words {
         blocks: String,
     },
     Build(BuildWords),
-    Upgrade {
-        image: String,
-        out: String,
-        /// How many block buffers, 2 to 16; the image's own number if none is given.
-        buffers: Option<u16>,
-    },
+    Upgrade(UpgradeWords),
     Load(LoadWords),
     Text(ScreenRange),
     Screens {
@@ -47,18 +42,8 @@ pub enum Words {
     },
     Import(ContainerWords),
     Export(ContainerWords),
-    Run {
-        image: String,
-        blocks: Option<String>,
-        limit: u64,
-    },
-    Debug {
-        image: String,
-        name: String,
-        trace: String,
-        blocks: Option<String>,
-        limit: u64,
-    },
+    Run(RunWords),
+    Debug(DebugWords),
     See {
         image: String,
         name: String,
@@ -103,6 +88,15 @@ pub struct BuildWords {
     pub shows_place: bool,
 }
 
+/// The words of `upgrade`.
+#[derive(Drop)]
+pub struct UpgradeWords {
+    pub image: String,
+    pub out: String,
+    /// How many block buffers, 2 to 16; the image's own number if none is given.
+    pub buffers: Option<u16>,
+}
+
 /// The words of `load`.
 #[derive(Drop)]
 pub struct LoadWords {
@@ -112,6 +106,24 @@ pub struct LoadWords {
     pub limit: u64,
     /// Whether it is shown if the screens stopped, also if standard error is no terminal.
     pub shows_place: bool,
+}
+
+/// The words of `run`.
+#[derive(Drop)]
+pub struct RunWords {
+    pub image: String,
+    pub blocks: Option<String>,
+    pub limit: u64,
+}
+
+/// The words of `debug`.
+#[derive(Drop)]
+pub struct DebugWords {
+    pub image: String,
+    pub name: String,
+    pub trace: String,
+    pub blocks: Option<String>,
+    pub limit: u64,
 }
 
 /// The words of `survey`.

@@ -8,8 +8,8 @@ ghost use Rattle.clap.specs.Simple.{subcommand_rows_of};
 ghost use Rattle.command_words.specs.Typed as typed;
 
 use crate::{
-    BuildWords, ContainerWords, DiskWords, GuessWords, JudgeWords, LoadWords, ScreenRange,
-    SurveyWords, UnpackWords, Words,
+    BuildWords, ContainerWords, DebugWords, DiskWords, GuessWords, JudgeWords, LoadWords, RunWords,
+    ScreenRange, SurveyWords, UnpackWords, UpgradeWords, Words,
 };
 use clap::ArgMatches;
 use std::alloc::Global;
@@ -168,11 +168,11 @@ fn upgrade_words(alloc: Global, matches: &ArgMatches<'_>) -> Result<Words, Unrea
     ensures typed { IfOk result (typed.AreOf (codes "upgrade") (rows_of (found_of matches.now))) }
     ensures lacks { IfErr result (λ why. why ≡ Unread.Missing → typed.LacksOne (rows_of (found_of matches.now)) typed.upgrade_parts) }
 {
-    Ok(Words::Upgrade {
+    Ok(Words::Upgrade(UpgradeWords {
         image: text(alloc, matches, "IMAGE")?,
         out: text(alloc, matches, "OUT")?,
         buffers: number_if_given(matches, "buffers")?,
-    })
+    }))
 }
 
 fn screens_words(alloc: Global, matches: &ArgMatches<'_>) -> Result<Words, Unread>
@@ -220,24 +220,24 @@ fn run_words(alloc: Global, matches: &ArgMatches<'_>) -> Result<Words, Unread>
     ensures typed { IfOk result (typed.AreOf (codes "run") (rows_of (found_of matches.now))) }
     ensures lacks { IfErr result (λ why. why ≡ Unread.Missing → typed.LacksOne (rows_of (found_of matches.now)) (typed.Word (codes "IMAGE") ∷ typed.limit_part ∷ [])) }
 {
-    Ok(Words::Run {
+    Ok(Words::Run(RunWords {
         image: text(alloc, matches, "IMAGE")?,
         blocks: text_if_given(alloc, matches, "BLOCKS")?,
         limit: limit(matches)?,
-    })
+    }))
 }
 
 fn debug_words(alloc: Global, matches: &ArgMatches<'_>) -> Result<Words, Unread>
     ensures typed { IfOk result (typed.AreOf (codes "debug") (rows_of (found_of matches.now))) }
     ensures lacks { IfErr result (λ why. why ≡ Unread.Missing → typed.LacksOne (rows_of (found_of matches.now)) typed.debug_parts) }
 {
-    Ok(Words::Debug {
+    Ok(Words::Debug(DebugWords {
         image: text(alloc, matches, "IMAGE")?,
         name: text(alloc, matches, "NAME")?,
         trace: text(alloc, matches, "TRACE")?,
         blocks: text_if_given(alloc, matches, "BLOCKS")?,
         limit: limit(matches)?,
-    })
+    }))
 }
 
 fn see_words(alloc: Global, matches: &ArgMatches<'_>) -> Result<Words, Unread>

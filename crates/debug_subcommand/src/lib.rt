@@ -6,4 +6,4 @@ mod debug_command;
 mod over_files;
 
 pub use debug_command::do_debug;
-pub use over_files::debug_word;
+pub use over_files::{Debugged, debug_word};

@@ -22,24 +22,37 @@ fn keep_blocks_apart<F: Guards>(files: &mut F, blocks: Option<&str>, trace: &str
     }
 }
 
+/// What `debug` names: the image, the word, the file of the trace, the blocks, if there are some, and the most ticks.
+#[derive(Clone, Copy)]
+pub struct Debugged<'a> {
+    pub image: &'a str,
+    pub name: &'a str,
+    pub trace: &'a str,
+    pub blocks: Option<&'a str>,
+    pub limit: u64,
+}
+
 /// Opens what `debug` names, and runs the image with a trace of the word. If nothing is run, no new trace is left. If the run cannot
 /// begin, it is printed why, and the status is the error.
 pub fn debug_word<F: Ends, W: Output>(
     files: &mut F,
     writer: &mut W,
-    image: &str,
-    name: &str,
-    trace: &str,
-    blocks: Option<&str>,
-    limit: u64,
+    debugged: Debugged<'_>,
 ) -> Result<u8, u8>
     ensures debugged { Began F.log W.Output files.old files.new writer.old writer.new result
-        (Debugs image.now name.now trace.now (given blocks.entry) limit) }
+        (Debugs debugged.entry.image.now debugged.entry.name.now debugged.entry.trace.now (given debugged.entry.blocks) debugged.entry.limit) }
     ensures refused { NotBegun F.log W.Output files.old files.new writer.old writer.new result
-        (RefusesDebug image.now trace.now (given blocks.entry)) }
+        (RefusesDebug debugged.entry.image.now debugged.entry.trace.now (given debugged.entry.blocks)) }
     ensures cut { W.failed writer.old ≡ false → W.failed writer.new ≡ true → status_of result ≡ 5 }
     ensures passed { IsPassedOn (status_of result) (W.failed writer.new) (W.passed writer.new) (W.sent writer.old) (W.sent writer.new) }
 {
+    let Debugged {
+        image,
+        name,
+        trace,
+        blocks,
+        limit,
+    } = debugged;
     files.keep_apart(image, trace, "the image and the trace")?;
     keep_blocks_apart(files, blocks, trace)?;
     files.keep_trace(trace)?;

@@ -55,33 +55,48 @@ fn show_place<F: Files + Places>(
     }
 }
 
-/// Builds the screens that `build` names, and writes the image. `shows_place`: where a source is refused is shown also if
-/// standard error is no terminal. If it cannot begin, that is printed, and the status is the error.
+/// What `build` names: the screens, the image that is made, and how many block buffers it has.
+#[derive(Clone, Copy)]
+pub struct Build<'a> {
+    pub screens: Screens<'a>,
+    pub image: &'a str,
+    pub buffers: u16,
+    /// Whether it is shown where a source is refused, also if standard error is no terminal.
+    pub shows_place: bool,
+}
+
+/// What `upgrade` names: the image, the one that is made, and how many block buffers that has, if it is said.
+#[derive(Clone, Copy)]
+pub struct Upgrade<'a> {
+    pub image: &'a str,
+    pub out: &'a str,
+    pub buffers: Option<u16>,
+}
+
+/// Builds the screens that `build` names, and writes the image. If it cannot begin, that is printed, and the status is the error.
 pub fn build_image<F: Ends + Places, W: Output>(
     files: &mut F,
     writer: &mut W,
-    screens: Screens<'_>,
-    image: &str,
-    buffers: u16,
-    shows_place: bool,
+    build: Build<'_>,
 ) -> Result<u8, u8>
     ensures built { Began F.log W.Output files.old files.new writer.old writer.new result
-        (Builds screens.entry.blocks.now screens.entry.from screens.entry.to image.now buffers) }
+        (Builds build.entry.screens.blocks.now build.entry.screens.from build.entry.screens.to build.entry.image.now build.entry.buffers) }
     ensures refused { NotBegun F.log W.Output files.old files.new writer.old writer.new result
-        (RefusesBuild screens.entry.blocks.now image.now buffers) }
+        (RefusesBuild build.entry.screens.blocks.now build.entry.image.now build.entry.buffers) }
     ensures cut { W.failed writer.old ≡ false → W.failed writer.new ≡ true → status_of result ≡ 5 }
     ensures passed { IsPassedOn (status_of result) (W.failed writer.new) (W.passed writer.new) (W.sent writer.old) (W.sent writer.new) }
 {
+    let Build { image, buffers, .. } = build;
     if !is_count(buffers) {
         return Err(files.refuse_use("--buffers", "takes a number from 2 to 16"));
     }
-    let Screens { blocks, from, to } = screens;
+    let Screens { blocks, from, to } = build.screens;
     files.keep_apart(blocks, image, "the blocks and the image")?;
     files.keep_image(image)?;
     files.keep_blocks(blocks)?;
     let mut device = files.read_alone(blocks)?;
     let Ended { status, file } = do_build(files.alloc(), &mut device, from, to, buffers, writer);
-    let copy = if status == 1 && (shows_place || files.is_watched()) {
+    let copy = if status == 1 && (build.shows_place || files.is_watched()) {
         blocks_of(files.alloc(), &mut device)
     } else {
         None
@@ -98,17 +113,20 @@ pub fn build_image<F: Ends + Places, W: Output>(
 pub fn upgrade_image<F: Guards, W: Output>(
     files: &mut F,
     writer: &mut W,
-    image: &str,
-    out: &str,
-    buffers: Option<u16>,
+    upgrade: Upgrade<'_>,
 ) -> Result<u8, u8>
     ensures upgraded { Began F.log W.Output files.old files.new writer.old writer.new result
-        (Upgrades image.now out.now buffers) }
+        (Upgrades upgrade.entry.image.now upgrade.entry.out.now upgrade.entry.buffers) }
     ensures refused { NotBegun F.log W.Output files.old files.new writer.old writer.new result
-        (RefusesUpgrade image.now out.now buffers) }
+        (RefusesUpgrade upgrade.entry.image.now upgrade.entry.out.now upgrade.entry.buffers) }
     ensures cut { W.failed writer.old ≡ false → W.failed writer.new ≡ true → status_of result ≡ 5 }
     ensures passed { IsPassedOn (status_of result) (W.failed writer.new) (W.passed writer.new) (W.sent writer.old) (W.sent writer.new) }
 {
+    let Upgrade {
+        image,
+        out,
+        buffers,
+    } = upgrade;
     if !may_be_wanted(buffers) {
         return Err(files.refuse_use("--buffers", "takes a number from 2 to 16"));
     }

@@ -7,7 +7,7 @@ mod disks;
 mod screens;
 mod viewing;
 
-pub use building::{build_image, upgrade_image};
+pub use building::{Build, Upgrade, build_image, upgrade_image};
 pub use disks::{Disk, export_screens, import_screens};
 pub use screens::{Screens, print_headings, print_text, write_kernel, write_new, write_screens};
 pub use viewing::{see_word, view_word};

@@ -42,7 +42,7 @@ abbrev pub Obeys : Words → (status : ℕ) → (failed : Bool) → (old new : D
 Obeys (words.Kernel blocks) status failed old new = MakesKernel (string_bytes blocks) status failed old new
 Obeys (words.Build w) status failed old new =
     Builds (string_bytes w.screens.blocks) w.screens.from w.screens.to (string_bytes w.image) w.buffers status failed old new
-Obeys (words.Upgrade image out buffers) status failed old new = Upgrades (string_bytes image) (string_bytes out) buffers status failed old new
+Obeys (words.Upgrade w) status failed old new = Upgrades (string_bytes w.image) (string_bytes w.out) w.buffers status failed old new
 Obeys (words.Load w) status failed old new =
     Loads (string_bytes w.image) (string_bytes w.screens.blocks) w.screens.from w.screens.to (string_bytes w.out) w.limit status failed old new
 Obeys (words.Text w) status failed old new = Prints (string_bytes w.blocks) w.from w.to status failed old new
@@ -50,9 +50,9 @@ Obeys (words.Screens text blocks) status failed old new = MakesScreens (string_b
 Obeys (words.New blocks count) status failed old new = MakesNew (string_bytes blocks) count status failed old new
 Obeys (words.Import w) status failed old new = Imports (wanted w) w.cleans status failed old new
 Obeys (words.Export w) status failed old new = Exports (wanted w) status failed old new
-Obeys (words.Run image blocks limit) status failed old new = Runs (string_bytes image) (typed blocks) limit status failed old new
-Obeys (words.Debug image name trace blocks limit) status failed old new =
-    Debugs (string_bytes image) (string_bytes name) (string_bytes trace) (typed blocks) limit status failed old new
+Obeys (words.Run w) status failed old new = Runs (string_bytes w.image) (typed w.blocks) w.limit status failed old new
+Obeys (words.Debug w) status failed old new =
+    Debugs (string_bytes w.image) (string_bytes w.name) (string_bytes w.trace) (typed w.blocks) w.limit status failed old new
 Obeys (words.See image name) status failed old new = Sees (string_bytes image) (string_bytes name) status failed old new
 Obeys (words.View image name) status failed old new = Views (string_bytes image) (string_bytes name) status failed old new
 Obeys (words.Serve image blocks) status failed old new = ServesFiles (string_bytes image) (typed blocks) status failed old new
@@ -70,7 +70,7 @@ Obeys (words.Headings text) status failed old new = ListsHeadings (string_bytes 
 abbrev pub RefusesWords : Words → (status : ℕ) → (failed : Bool) → (old new : Done) → Type 0
 RefusesWords (words.Kernel blocks) status failed old new = Refuses (kernel_steps (string_bytes blocks)) status old new
 RefusesWords (words.Build w) status failed old new = RefusesBuild (string_bytes w.screens.blocks) (string_bytes w.image) w.buffers status old new
-RefusesWords (words.Upgrade image out buffers) status failed old new = RefusesUpgrade (string_bytes image) (string_bytes out) buffers status old new
+RefusesWords (words.Upgrade w) status failed old new = RefusesUpgrade (string_bytes w.image) (string_bytes w.out) w.buffers status old new
 RefusesWords (words.Load w) status failed old new =
     Refuses (load_steps (string_bytes w.image) (string_bytes w.screens.blocks) (string_bytes w.out)) status old new
 RefusesWords (words.Text w) status failed old new = Refuses (text_steps (string_bytes w.blocks)) status old new
@@ -78,9 +78,9 @@ RefusesWords (words.Screens text blocks) status failed old new = Refuses (screen
 RefusesWords (words.New blocks count) status failed old new = RefusesNew (string_bytes blocks) count status old new
 RefusesWords (words.Import w) status failed old new = RefusesImport (wanted w) status failed old new
 RefusesWords (words.Export w) status failed old new = RefusesExport (wanted w) status failed old new
-RefusesWords (words.Run image blocks limit) status failed old new = Refuses (run_steps (string_bytes image) (typed blocks)) status old new
-RefusesWords (words.Debug image name trace blocks limit) status failed old new =
-    RefusesDebug (string_bytes image) (string_bytes trace) (typed blocks) status old new
+RefusesWords (words.Run w) status failed old new = Refuses (run_steps (string_bytes w.image) (typed w.blocks)) status old new
+RefusesWords (words.Debug w) status failed old new =
+    RefusesDebug (string_bytes w.image) (string_bytes w.trace) (typed w.blocks) status old new
 RefusesWords (words.See image name) status failed old new = Refuses (image_steps (string_bytes image)) status old new
 RefusesWords (words.View image name) status failed old new = Refuses (image_steps (string_bytes image)) status old new
 RefusesWords (words.Serve image blocks) status failed old new = Refuses (serve_steps (string_bytes image) (typed blocks)) status old new

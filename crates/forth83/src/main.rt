@@ -9,20 +9,20 @@ ghost use Rattle.std.specs.String.{string_bytes};
 
 use advice_subcommand::advise_case;
 use command_words::{
-    ContainerWords, DiskWords, GuessWords, JudgeWords, LoadWords, Parsed, ScreenRange, SurveyWords,
-    UnpackWords, Words, parse, typed,
+    BuildWords, ContainerWords, DebugWords, DiskWords, GuessWords, JudgeWords, LoadWords, Parsed,
+    RunWords, ScreenRange, SurveyWords, UnpackWords, UpgradeWords, Words, parse, typed,
 };
-use debug_subcommand::debug_word;
+use debug_subcommand::{Debugged, debug_word};
 use file_subcommands::{
-    Disk, Screens, build_image, export_screens, import_screens, print_headings, print_text,
-    see_word, upgrade_image, view_word, write_kernel, write_new, write_screens,
+    Build, Disk, Screens, Upgrade, build_image, export_screens, import_screens, print_headings,
+    print_text, see_word, upgrade_image, view_word, write_kernel, write_new, write_screens,
 };
 use inner_interpreter::Output;
 use judge_subcommand::{Judged, judge_pupil};
 use load_subcommand::{Load, load_screens};
 use named_files::{Ends, Places, SystemFiles, out_of_memory, standard_output};
 use old_disk_subcommands::{Guess, OldDisk, Unpacking, guess_order, pack_disk, unpack_disk};
-use run_subcommand::run_image;
+use run_subcommand::{Run, run_image};
 use serve_subcommand::serve_image;
 use std::process::ExitCode;
 use survey_subcommand::{Surveyed, survey_screens};
@@ -36,6 +36,63 @@ fn screens_of(words: &ScreenRange) -> Screens<'_>
         blocks: words.blocks.as_str(),
         from: words.from,
         to: words.to,
+    }
+}
+
+/// What the words of `build` name.
+fn build_of(words: &BuildWords) -> Build<'_>
+    ensures blocks { result.screens.blocks.now ≡ string_bytes words.now.screens.blocks }
+    ensures range { (result.screens.from ≡ words.now.screens.from) × (result.screens.to ≡ words.now.screens.to) }
+    ensures image { result.image.now ≡ string_bytes words.now.image }
+    ensures options { (result.buffers ≡ words.now.buffers) × (result.shows_place ≡ words.now.shows_place) }
+{
+    Build {
+        screens: screens_of(&words.screens),
+        image: words.image.as_str(),
+        buffers: words.buffers,
+        shows_place: words.shows_place,
+    }
+}
+
+/// What the words of `upgrade` name.
+fn upgrade_of(words: &UpgradeWords) -> Upgrade<'_>
+    ensures images { (result.image.now ≡ string_bytes words.now.image) × (result.out.now ≡ string_bytes words.now.out) }
+    ensures buffers { result.buffers ≡ words.now.buffers }
+{
+    Upgrade {
+        image: words.image.as_str(),
+        out: words.out.as_str(),
+        buffers: words.buffers,
+    }
+}
+
+/// What the words of `run` name.
+fn run_of(words: &RunWords) -> Run<'_>
+    ensures image { result.image.now ≡ string_bytes words.now.image }
+    ensures blocks { option_map (λ text. text.now) result.blocks ≡ option_map string_bytes words.now.blocks }
+    ensures limit { result.limit ≡ words.now.limit }
+{
+    Run {
+        image: words.image.as_str(),
+        blocks: words.blocks.as_deref(),
+        limit: words.limit,
+    }
+}
+
+/// What the words of `debug` name.
+fn debugged_of(words: &DebugWords) -> Debugged<'_>
+    ensures image { result.image.now ≡ string_bytes words.now.image }
+    ensures name { result.name.now ≡ string_bytes words.now.name }
+    ensures trace { result.trace.now ≡ string_bytes words.now.trace }
+    ensures blocks { option_map (λ text. text.now) result.blocks ≡ option_map string_bytes words.now.blocks }
+    ensures limit { result.limit ≡ words.now.limit }
+{
+    Debugged {
+        image: words.image.as_str(),
+        name: words.name.as_str(),
+        trace: words.trace.as_str(),
+        blocks: words.blocks.as_deref(),
+        limit: words.limit,
     }
 }
 
@@ -172,50 +229,18 @@ fn obey<F: Ends + Places, W: Output>(files: &mut F, writer: &mut W, words: Words
 {
     match words {
         Words::Kernel { blocks } => write_kernel(files, writer, blocks.as_str()),
-        Words::Build(words) => build_image(
-            files,
-            writer,
-            screens_of(&words.screens),
-            words.image.as_str(),
-            words.buffers,
-            words.shows_place,
-        ),
+        Words::Build(words) => build_image(files, writer, build_of(&words)),
         Words::Load(words) => load_screens(files, writer, load_of(&words)),
-        Words::Upgrade {
-            image,
-            out,
-            buffers,
-        } => upgrade_image(files, writer, image.as_str(), out.as_str(), buffers),
+        Words::Upgrade(words) => upgrade_image(files, writer, upgrade_of(&words)),
         Words::Text(words) => print_text(files, writer, screens_of(&words)),
-        Words::Screens { text, blocks } => write_screens(
-            files,
-            writer,
-            text.as_str(),
-            blocks.as_str(),
-        ),
+        Words::Screens { text, blocks } => {
+            write_screens(files, writer, text.as_str(), blocks.as_str())
+        }
         Words::New { blocks, count } => write_new(files, writer, blocks.as_str(), count),
         Words::Import(words) => import_screens(files, writer, disk_of(&words), words.cleans),
         Words::Export(words) => export_screens(files, writer, disk_of(&words)),
-        Words::Run {
-            image,
-            blocks,
-            limit,
-        } => run_image(files, writer, image.as_str(), blocks.as_deref(), limit),
-        Words::Debug {
-            image,
-            name,
-            trace,
-            blocks,
-            limit,
-        } => debug_word(
-            files,
-            writer,
-            image.as_str(),
-            name.as_str(),
-            trace.as_str(),
-            blocks.as_deref(),
-            limit,
-        ),
+        Words::Run(words) => run_image(files, writer, run_of(&words)),
+        Words::Debug(words) => debug_word(files, writer, debugged_of(&words)),
         Words::See { image, name } => see_word(files, writer, image.as_str(), name.as_str()),
         Words::View { image, name } => view_word(files, writer, image.as_str(), name.as_str()),
         Words::Serve { image, blocks } => {

@@ -4,5 +4,5 @@
 mod over_files;
 mod run_command;
 
-pub use over_files::run_image;
+pub use over_files::{Run, run_image};
 pub use run_command::do_run;

@@ -10,22 +10,25 @@ use crate::run_command::do_run;
 use inner_interpreter::Output;
 use named_files::Ends;
 
+/// What `run` names: the image, the blocks, if there are some, and the most ticks.
+#[derive(Clone, Copy)]
+pub struct Run<'a> {
+    pub image: &'a str,
+    pub blocks: Option<&'a str>,
+    pub limit: u64,
+}
+
 /// Opens what `run` names, and runs the image over it, and over standard input. If it cannot start, the reason is printed, and the
 /// status is the error.
-pub fn run_image<F: Ends, W: Output>(
-    files: &mut F,
-    writer: &mut W,
-    image: &str,
-    blocks: Option<&str>,
-    limit: u64,
-) -> Result<u8, u8>
+pub fn run_image<F: Ends, W: Output>(files: &mut F, writer: &mut W, run: Run<'_>) -> Result<u8, u8>
     ensures ran { W.failed writer.old ≡ false → Began F.log W.Output files.old files.new writer.old writer.new result
-        (Runs image.now (given blocks.entry) limit) }
+        (Runs run.entry.image.now (given run.entry.blocks) run.entry.limit) }
     ensures cut { W.failed writer.old ≡ false → W.failed writer.new ≡ true → status_of result ≡ 5 }
     ensures passed { IsPassedOn (status_of result) (W.failed writer.new) (W.passed writer.new) (W.sent writer.old) (W.sent writer.new) }
     ensures refused { NotBegun F.log W.Output files.old files.new writer.old writer.new result
-        (Refuses (run_steps image.now (given blocks.entry))) }
+        (Refuses (run_steps run.entry.image.now (given run.entry.blocks))) }
 {
+    let Run { image, blocks, .. } = run;
     let bytes = files.image_bytes(image)?;
     let mut reader = files.input()?;
     let mut device = files.run_blocks(blocks)?;
@@ -33,7 +36,7 @@ pub fn run_image<F: Ends, W: Output>(
         files.alloc(),
         bytes.as_slice(),
         &mut device,
-        limit,
+        run.limit,
         &mut reader,
         writer,
     );

@@ -23,7 +23,7 @@ returns-clause-upgraded g c = record {
   ended = c.do_upgrade-status.result.status;
   makes = made _ _ c.do_upgrade-status.result.file _ _ _ _ _ _ _ _
       (takes _ _ _ _ _ _ c.in_ok-keep_image.ensures.asked (taken _ _ _ c.in_ok-bytes.ensures.asked)) (search rules)
-      (both _ _ _ c.do_upgrade-status.ensures.status (upgraded_file c.as_slice.result.now c.args.buffers (g.W.Output.failed c.do_upgrade-status.new.writer) c.do_upgrade-status.result.file (g.W.Output.sent c.args.writer.now) (g.W.Output.sent c.do_upgrade-status.new.writer) c.do_upgrade-status.ensures.upgraded))
+      (both _ _ _ c.do_upgrade-status.ensures.status (upgraded_file c.as_slice.result.now c.args.upgrade.buffers (g.W.Output.failed c.do_upgrade-status.new.writer) c.do_upgrade-status.result.file (g.W.Output.sent c.args.writer.now) (g.W.Output.sent c.do_upgrade-status.new.writer) c.do_upgrade-status.ensures.upgraded))
       c.write_made.ensures.none c.write_made.ensures.made;
   refused = c.do_upgrade-status.ensures.refused;
   too_large = c.do_upgrade-status.ensures.too_large;
