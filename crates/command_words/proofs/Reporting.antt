@@ -1,6 +1,6 @@
 -- What becomes of a command line that clap refuses, or of which no words come.
-use Rattle.std.proofs.Common.{◌≡◌, ◌⊎◌, inl, inr, Bool, true, false, List, refl, sym, subst}
-use Rattle.clap.specs.Simple.{App, subcommand_of}
+use Rattle.std.proofs.Common.{◌≡◌, inl, inr, Bool, true, false, List, refl, sym, subst}
+use Rattle.clap.specs.Simple.{App, is_simple, subcommand_of}
 use Rattle.clap.specs.Takes.{takes}
 use Rattle.clap.specs.Values.{kind_of}
 use Rattle.clap.specs.Walk.{Text}
@@ -8,9 +8,9 @@ use Rattle.clap.specs.Words.{HasKind, fault_of, is_simple_and_free}
 use Rattle.clap.specs.declared.error.Error.{Error}
 use Rattle.clap.specs.declared.error.kind.ErrorKind.TheVariants.{OutOfMemory}
 use Rattle.command_words.specs.CommandLine.{forth83}
-use Rattle.command_words.specs.Refused.{Ends, IsParsed, IsRefused, IsReport, IsUnread, status_of}
+use Rattle.command_words.specs.CommandLine as line
+use Rattle.command_words.specs.Refused.{IsParsed, IsRefused, IsReport}
 use Rattle.command_words.specs.declared.Parsed.{Parsed}
-use Rattle.command_words.specs.declared.Parsed.TheVariants as parsed
 use Rattle.command_words.specs.declared.Refusal.{Refusal}
 use Rattle.command_words.specs.declared.Refusal.TheVariants.{Clap}
 use Rattle.command_words.specs.declared.Refusal.TheVariants as refusal
@@ -18,7 +18,15 @@ use Rattle.command_words.specs.Typed.{LacksWords}
 use Rattle.command_words.specs.declared.reading.Unread.{Unread}
 use Rattle.command_words.specs.declared.reading.Unread.TheVariants as unread
 
+-- clap gives the matches of this command line
+pub simple : is_simple forth83 ≡ true
+unfolding line.kernel line.build line.load line.upgrade line.text line.screens line.new line.import line.export line.run line.see line.debug line.view
+    line.serve line.survey line.judge line.unpack line.pack line.guess line.advise line.headings
+simple = refl
+
 free : is_simple_and_free forth83 ≡ true
+unfolding line.kernel line.build line.load line.upgrade line.text line.screens line.new line.import line.export line.run line.see line.debug line.view
+    line.serve line.survey line.judge line.unpack line.pack line.guess line.advise line.headings
 free = refl
 
 by_taken : (typed : List Text) (e : Error) (b : Bool) → takes forth83 typed ≡ b → (takes forth83 typed ≡ true → kind_of e ≡ OutOfMemory)

@@ -1,7 +1,7 @@
 -- The command line: each subcommand with its arguments, in their order.
 use Rattle.std.specs.Prelude.{◌≡◌, Bool, List, [], ◌∷◌, ◌++◌, Some, true, false, codes, pos}
 use Rattle.clap.specs.Walk.{Rule, Text}
-use Rattle.clap.specs.Simple.{App, Shape, app_of, new_shape, with_rule}
+use Rattle.clap.specs.Simple.{App, Shape, app_of, new_shape, with_rule, with_subcommand}
 pub use Rattle.clap.specs.Simple.{new_rule}
 use Rattle.clap.specs.declared.builder.command.Command.TheViews.{out-Command as fields_of}
 use Rattle.clap.specs.declared.builder.action.ArgAction.TheVariants.{SetTrue}
@@ -51,34 +51,34 @@ all_places = flag (codes "all")
 abbrev pub sub : Text → List Rule → Shape
 sub name rules = record (new_shape name) { rules = rules }
 
-abbrev pub kernel : Shape
+unfoldable pub kernel : Shape
 kernel = sub (codes "kernel") (word (codes "BLOCKS") ∷ [])
 
 -- the screens FROM to TO of BLOCKS
 abbrev pub screens_rules : List Rule
 screens_rules = word (codes "BLOCKS") ∷ screen (codes "FROM") ∷ screen (codes "TO") ∷ []
 
-abbrev pub build : Shape
+unfoldable pub build : Shape
 build = sub (codes "build") (screens_rules
     ++ word (codes "IMAGE") ∷ four_buffers ∷ show_place ∷ [])
 
-abbrev pub load : Shape
+unfoldable pub load : Shape
 load = sub (codes "load") (word (codes "IMAGE") ∷ (screens_rules ++ word (codes "OUT") ∷ limit ∷ show_place ∷ []))
 
-abbrev pub upgrade : Shape
+unfoldable pub upgrade : Shape
 upgrade = sub (codes "upgrade") (word (codes "IMAGE") ∷ word (codes "OUT") ∷ buffers ∷ [])
 
-abbrev pub text : Shape
+unfoldable pub text : Shape
 text = sub (codes "text") screens_rules
 
-abbrev pub screens : Shape
+unfoldable pub screens : Shape
 screens = sub (codes "screens") (word (codes "TEXT") ∷ word (codes "BLOCKS") ∷ [])
 
 -- how many blocks
 abbrev pub count : Rule
 count = record (word (codes "N")) { parser = Some (value.Signed (pos 0) (pos 4294967295)) }
 
-abbrev pub new : Shape
+unfoldable pub new : Shape
 new = sub (codes "new") (word (codes "BLOCKS") ∷ count ∷ [])
 
 -- how screens lie in a container: its format, and numbers in place of the format's
@@ -102,31 +102,31 @@ layout_rules = format ∷ offset ∷ sector ∷ option (codes "skew") ∷ []
 abbrev pub clean : Rule
 clean = flag (codes "clean")
 
-abbrev pub import : Shape
+unfoldable pub import : Shape
 import = sub (codes "import") (word (codes "CONTAINER") ∷ word (codes "BLOCKS") ∷ clean ∷ layout_rules)
 
-abbrev pub export : Shape
+unfoldable pub export : Shape
 export = sub (codes "export") (word (codes "BLOCKS") ∷ word (codes "CONTAINER") ∷ layout_rules)
 
-abbrev pub run : Shape
+unfoldable pub run : Shape
 run = sub (codes "run") (word (codes "IMAGE") ∷ new_rule (codes "BLOCKS") ∷ limit ∷ [])
 
-abbrev pub see : Shape
+unfoldable pub see : Shape
 see = sub (codes "see") (word (codes "IMAGE") ∷ word (codes "NAME") ∷ [])
 
-abbrev pub debug : Shape
+unfoldable pub debug : Shape
 debug = sub (codes "debug") (word (codes "IMAGE") ∷ word (codes "NAME") ∷ word (codes "TRACE") ∷ new_rule (codes "BLOCKS") ∷ limit ∷ [])
 
-abbrev pub view : Shape
+unfoldable pub view : Shape
 view = sub (codes "view") (word (codes "IMAGE") ∷ word (codes "NAME") ∷ [])
 
-abbrev pub serve : Shape
+unfoldable pub serve : Shape
 serve = sub (codes "serve") (word (codes "IMAGE") ∷ new_rule (codes "BLOCKS") ∷ [])
 
-abbrev pub survey : Shape
+unfoldable pub survey : Shape
 survey = sub (codes "survey") (word (codes "IMAGE") ∷ (screens_rules ++ all_places ∷ []))
 
-abbrev pub judge : Shape
+unfoldable pub judge : Shape
 judge = sub (codes "judge")
     (word (codes "IMAGE") ∷ word (codes "TEXTS") ∷ word (codes "COURSE") ∷ word (codes "PUPIL") ∷ lesson_limit ∷ [])
 
@@ -139,24 +139,33 @@ disk_rules =
 abbrev pub record_rules : List Rule
 record_rules = number (codes "width") ∷ number (codes "lines") ∷ number (codes "columns") ∷ []
 
-abbrev pub unpack : Shape
+unfoldable pub unpack : Shape
 unpack = sub (codes "unpack")
     (word (codes "CONTAINER") ∷ word (codes "BLOCKS") ∷ clean ∷ flag (codes "append") ∷ option (codes "file") ∷ (disk_rules ++ record_rules))
 
-abbrev pub pack : Shape
+unfoldable pub pack : Shape
 pack = sub (codes "pack") (word (codes "BLOCKS") ∷ word (codes "CONTAINER") ∷ disk_rules)
 
-abbrev pub guess : Shape
+unfoldable pub guess : Shape
 guess = sub (codes "guess") (word (codes "DISK") ∷ flag (codes "better") ∷ flag (codes "score") ∷ flag (codes "files") ∷ [])
 
-abbrev pub advise : Shape
+unfoldable pub advise : Shape
 advise = sub (codes "advise") (word (codes "CASE") ∷ [])
 
-abbrev pub headings : Shape
+unfoldable pub headings : Shape
 headings = sub (codes "headings") (word (codes "TEXT") ∷ [])
 
-abbrev pub subcommands : List Shape
-subcommands = kernel ∷ build ∷ load ∷ upgrade ∷ text ∷ screens ∷ new ∷ import ∷ export ∷ run ∷ see ∷ debug ∷ view ∷ serve ∷ survey ∷ judge ∷ unpack ∷ pack ∷ guess ∷ advise ∷ headings ∷ []
+-- what makes and reads files of blocks, and images
+abbrev pub of_files : List Shape
+of_files = kernel ∷ build ∷ load ∷ upgrade ∷ text ∷ screens ∷ new ∷ import ∷ export ∷ []
+
+-- what runs an image, or shows its words
+abbrev pub of_images : List Shape
+of_images = run ∷ see ∷ debug ∷ view ∷ serve ∷ []
+
+-- what reads old screens, answers of pupils, and texts
+abbrev pub of_sources : List Shape
+of_sources = survey ∷ judge ∷ unpack ∷ pack ∷ guess ∷ advise ∷ headings ∷ []
 
 abbrev pub forth83 : App
 forth83 = record {
@@ -166,13 +175,18 @@ forth83 = record {
     arg_required_else_help = true;
     is_leaf = false;
   };
-  subs = subcommands;
+  subs = of_files ++ of_images ++ of_sources;
 }
 
 -- a command with these arguments after its own
 abbrev pub with_rules : List Rule → App → App
 with_rules [] a = a
 with_rules (rule ∷ rules) a = with_rules rules (with_rule a rule)
+
+-- a command with these subcommands after its own
+abbrev pub with_subcommands : List Shape → App → App
+with_subcommands [] a = a
+with_subcommands (shape ∷ shapes) a = with_subcommands shapes (with_subcommand a shape)
 
 -- clap reads words by this command, of whose arguments none is global but if `globals` says so
 pub record IsRead (a : App) (globals : Bool) (c : Command) : Type 0 where
@@ -186,3 +200,7 @@ IsSubcommand shape c = IsRead (record { top = shape; subs = [] }) false c
 -- c is the command `old` with these arguments after its own
 abbrev pub Adds : List Rule → (old c : Command) → Type 0
 Adds rules old c = IsRead (with_rules rules (app_of old)) (fields_of old).has_globals c
+
+-- c is the command `old` with these subcommands after its own
+abbrev pub AddsSubcommands : List Shape → (old c : Command) → Type 0
+AddsSubcommands shapes old c = IsRead (with_subcommands shapes (app_of old)) (fields_of old).has_globals c

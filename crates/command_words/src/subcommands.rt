@@ -12,6 +12,7 @@ use crate::arguments::{
 use clap::Command;
 use std::alloc::{AllocError, Global};
 
+#[tactic(auto, unfolding(crate::specs::CommandLine::kernel))]
 fn kernel_command<'a>(alloc: Global) -> Result<Command<'a>, AllocError>
     ensures { IfOk result (line.IsSubcommand line.kernel) }
 {
@@ -30,6 +31,7 @@ fn with_screens<'a>(alloc: Global, command: Command<'a>) -> Result<Command<'a>, 
         .arg(screen(alloc, "TO", "The last screen, 0 to 65535"))
 }
 
+#[tactic(auto, unfolding(crate::specs::CommandLine::build))]
 fn build_command<'a>(alloc: Global) -> Result<Command<'a>, AllocError>
     ensures { IfOk result (line.IsSubcommand line.build) }
 {
@@ -52,6 +54,7 @@ fn load_command<'a>(alloc: Global) -> Result<Command<'a>, AllocError>
         .arg(show_place(alloc))
 }
 
+#[tactic(auto, unfolding(crate::specs::CommandLine::upgrade))]
 fn upgrade_command<'a>(alloc: Global) -> Result<Command<'a>, AllocError>
     ensures { IfOk result (line.IsSubcommand line.upgrade) }
 {
@@ -65,6 +68,7 @@ fn upgrade_command<'a>(alloc: Global) -> Result<Command<'a>, AllocError>
         ))
 }
 
+#[tactic(auto, unfolding(crate::specs::CommandLine::text))]
 fn text_command<'a>(alloc: Global) -> Result<Command<'a>, AllocError>
     ensures { IfOk result (line.IsSubcommand line.text) }
 {
@@ -74,6 +78,7 @@ fn text_command<'a>(alloc: Global) -> Result<Command<'a>, AllocError>
     )
 }
 
+#[tactic(auto, unfolding(crate::specs::CommandLine::screens))]
 fn screens_command<'a>(alloc: Global) -> Result<Command<'a>, AllocError>
     ensures { IfOk result (line.IsSubcommand line.screens) }
 {
@@ -83,6 +88,7 @@ fn screens_command<'a>(alloc: Global) -> Result<Command<'a>, AllocError>
         .arg(word(alloc, "BLOCKS", "A block file, or a new one"))
 }
 
+#[tactic(auto, unfolding(crate::specs::CommandLine::new))]
 fn new_command<'a>(alloc: Global) -> Result<Command<'a>, AllocError>
     ensures { IfOk result (line.IsSubcommand line.new) }
 {
@@ -108,6 +114,7 @@ fn with_layout<'a>(alloc: Global, command: Command<'a>) -> Result<Command<'a>, A
         ))
 }
 
+#[tactic(auto, unfolding(crate::specs::CommandLine::import))]
 fn import_command<'a>(alloc: Global) -> Result<Command<'a>, AllocError>
     ensures { IfOk result (line.IsSubcommand line.import) }
 {
@@ -119,6 +126,7 @@ fn import_command<'a>(alloc: Global) -> Result<Command<'a>, AllocError>
     with_layout(alloc, command)
 }
 
+#[tactic(auto, unfolding(crate::specs::CommandLine::export))]
 fn export_command<'a>(alloc: Global) -> Result<Command<'a>, AllocError>
     ensures { IfOk result (line.IsSubcommand line.export) }
 {
@@ -155,6 +163,7 @@ fn debug_command<'a>(alloc: Global) -> Result<Command<'a>, AllocError>
         .arg(limit(alloc))
 }
 
+#[tactic(auto, unfolding(crate::specs::CommandLine::see))]
 fn see_command<'a>(alloc: Global) -> Result<Command<'a>, AllocError>
     ensures { IfOk result (line.IsSubcommand line.see) }
 {
@@ -164,6 +173,7 @@ fn see_command<'a>(alloc: Global) -> Result<Command<'a>, AllocError>
         .arg(word(alloc, "NAME", "The word"))
 }
 
+#[tactic(auto, unfolding(crate::specs::CommandLine::view))]
 fn view_command<'a>(alloc: Global) -> Result<Command<'a>, AllocError>
     ensures { IfOk result (line.IsSubcommand line.view) }
 {
@@ -173,6 +183,7 @@ fn view_command<'a>(alloc: Global) -> Result<Command<'a>, AllocError>
         .arg(word(alloc, "NAME", "The word"))
 }
 
+#[tactic(auto, unfolding(crate::specs::CommandLine::serve))]
 fn serve_command<'a>(alloc: Global) -> Result<Command<'a>, AllocError>
     ensures { IfOk result (line.IsSubcommand line.serve) }
 {
@@ -307,6 +318,7 @@ fn guess_command<'a>(alloc: Global) -> Result<Command<'a>, AllocError>
         ))
 }
 
+#[tactic(auto, unfolding(crate::specs::CommandLine::advise))]
 fn advise_command<'a>(alloc: Global) -> Result<Command<'a>, AllocError>
     ensures { IfOk result (line.IsSubcommand line.advise) }
 {
@@ -315,6 +327,7 @@ fn advise_command<'a>(alloc: Global) -> Result<Command<'a>, AllocError>
         .arg(word(alloc, "CASE", "A text that says what happened"))
 }
 
+#[tactic(auto, unfolding(crate::specs::CommandLine::headings))]
 fn headings_command<'a>(alloc: Global) -> Result<Command<'a>, AllocError>
     ensures { IfOk result (line.IsSubcommand line.headings) }
 {
@@ -323,15 +336,11 @@ fn headings_command<'a>(alloc: Global) -> Result<Command<'a>, AllocError>
         .arg(word(alloc, "TEXT", "The text file"))
 }
 
-/// The program's command line.
-pub fn command<'a>(alloc: Global) -> Result<Command<'a>, AllocError>
-    ensures { IfOk result (λ c. app_of c ≡ line.forth83) }
+/// Gives a command the subcommands that make and read files of blocks, and images.
+fn with_files<'a>(alloc: Global, command: Command<'a>) -> Result<Command<'a>, AllocError>
+    ensures { IfOk result (line.AddsSubcommands line.of_files command.entry) }
 {
-    Command::new(alloc, "forth83")
-        .about("A Forth-83 system with block storage")
-        .version(VERSION)
-        .subcommand_required(true)
-        .arg_required_else_help(true)
+    command
         .subcommand(kernel_command(alloc)?)?
         .subcommand(build_command(alloc)?)?
         .subcommand(load_command(alloc)?)?
@@ -340,12 +349,26 @@ pub fn command<'a>(alloc: Global) -> Result<Command<'a>, AllocError>
         .subcommand(screens_command(alloc)?)?
         .subcommand(new_command(alloc)?)?
         .subcommand(import_command(alloc)?)?
-        .subcommand(export_command(alloc)?)?
+        .subcommand(export_command(alloc)?)
+}
+
+/// Gives a command the subcommands that run an image, or show its words.
+fn with_images<'a>(alloc: Global, command: Command<'a>) -> Result<Command<'a>, AllocError>
+    ensures { IfOk result (line.AddsSubcommands line.of_images command.entry) }
+{
+    command
         .subcommand(run_command(alloc)?)?
         .subcommand(see_command(alloc)?)?
         .subcommand(debug_command(alloc)?)?
         .subcommand(view_command(alloc)?)?
-        .subcommand(serve_command(alloc)?)?
+        .subcommand(serve_command(alloc)?)
+}
+
+/// Gives a command the subcommands that read old screens, answers of pupils, and texts.
+fn with_sources<'a>(alloc: Global, command: Command<'a>) -> Result<Command<'a>, AllocError>
+    ensures { IfOk result (line.AddsSubcommands line.of_sources command.entry) }
+{
+    command
         .subcommand(survey_command(alloc)?)?
         .subcommand(judge_command(alloc)?)?
         .subcommand(unpack_command(alloc)?)?
@@ -353,4 +376,16 @@ pub fn command<'a>(alloc: Global) -> Result<Command<'a>, AllocError>
         .subcommand(guess_command(alloc)?)?
         .subcommand(advise_command(alloc)?)?
         .subcommand(headings_command(alloc)?)
+}
+
+/// The program's command line.
+pub fn command<'a>(alloc: Global) -> Result<Command<'a>, AllocError>
+    ensures { IfOk result (λ c. app_of c ≡ line.forth83) }
+{
+    let command = Command::new(alloc, "forth83")
+        .about("A Forth-83 system with block storage")
+        .version(VERSION)
+        .subcommand_required(true)
+        .arg_required_else_help(true);
+    with_sources(alloc, with_images(alloc, with_files(alloc, command)?)?)
 }

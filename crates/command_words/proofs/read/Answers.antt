@@ -1,14 +1,9 @@
-use Rattle.std.proofs.Common.{◌≡◌, map, true, refl, sym, subst}
+use Rattle.std.proofs.Common.{map, subst}
 use Rattle.std.specs.String.{string_bytes}
-use Rattle.clap.specs.Simple.{HasMatchesOf, is_simple}
-use Rattle.command_words.specs.CommandLine as line
+use Rattle.clap.specs.Simple.{HasMatchesOf}
 use Rattle.command_words.specs.Typed.{LacksWords, Means}
-use Rattle.command_words.proofs.Reporting.{lacking, refused_by}
+use Rattle.command_words.proofs.Reporting.{lacking, refused_by, simple}
 use Rattle.command_words.proofs.read.Goals as goal
-
--- clap gives the matches of this command line
-simple : is_simple line.forth83 ≡ true
-simple = refl
 
 pub returns-in-Ok-words_in-clause-typed : goal.returns-in-Ok-words_in-clause-typed
 returns-in-Ok-words_in-clause-typed c =

@@ -3,6 +3,7 @@ use Rattle.command_words.specs.CommandLine as line
 use Rattle.command_words.proofs.subcommands.pack_command.Goals as goal
 
 pub returns : goal.returns
+unfolding line.pack
 returns c =
     let s0 = about _ _ c.new.result c.about.result _ c.new.ensures.app c.new.ensures.local c.about.ensures in
     let s1 = grown _ _ c.about.result c.word.result _ _ s0 c.word.ensures.rule c.word.ensures.local c.in_ok-arg.ensures in

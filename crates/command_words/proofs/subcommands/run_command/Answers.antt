@@ -1,7 +1,9 @@
 use Rattle.command_words.proofs.Adding.{about, grown, if_ok_then}
+use Rattle.command_words.specs.CommandLine as line
 use Rattle.command_words.proofs.subcommands.run_command.Goals as goal
 
 pub returns : goal.returns
+unfolding line.run
 returns c =
     let s0 = about _ _ c.new.result c.about.result _ c.new.ensures.app c.new.ensures.local c.about.ensures in
     let s1 = grown _ _ c.about.result c.word.result _ _ s0 c.word.ensures.rule c.word.ensures.local c.in_ok-arg.ensures in
