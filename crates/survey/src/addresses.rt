@@ -1,5 +1,7 @@
 //! Addresses of another machine, and bytes of cells.
 
+ghost use Rattle.std.specs.Prelude.{◌≡◌, None, true};
+
 use crate::numbers::{Number, value};
 use crate::source::{Place, Source};
 use std::alloc::{AllocError, Global};
@@ -19,7 +21,7 @@ struct Named<'a> {
 }
 
 /// The address that a word stands for: a number, a constant, or a word that computes it.
-fn address(place: Place<'_>, named: &[Named<'_>]) -> Option<Number> {
+fn address(place: &Place<'_>, named: &[Named<'_>]) -> Option<Number> {
     match named.iter().rev().find(|one| one.name == place.word) {
         Some(one) => Some(one.number),
         None => value(place.word, place.base),
@@ -41,7 +43,10 @@ struct Body<'a> {
 }
 
 impl<'a> Body<'a> {
-    fn new(name: &'a [u8]) -> Body<'a> {
+    fn new(name: &'a [u8]) -> Body<'a>
+        ensures nothing { (result.count ≡ 0) × (result.most ≡ 0) × (result.last ≡ None) }
+        ensures computing { result.is_computing ≡ true }
+    {
         Body {
             name,
             count: 0,
@@ -68,7 +73,7 @@ impl<'a> Body<'a> {
 }
 
 /// The number that a word with no more than these does: 0 for one that computes.
-fn number_of(place: Place<'_>, named: &[Named<'_>]) -> Option<Number> {
+fn number_of(place: &Place<'_>, named: &[Named<'_>]) -> Option<Number> {
     if has(COMPUTING, place.word) {
         return Some(Number {
             is_negative: false,
@@ -101,14 +106,14 @@ fn named_addresses<'a>(alloc: Global, source: &Source<'a>) -> Result<Vec<Named<'
                 })?;
             }
             (b"(", _) => {}
-            _ => body = body.with(number_of(*place, named.as_slice())),
+            _ => body = body.with(number_of(place, named.as_slice())),
         }
     }
     Ok(named)
 }
 
 /// Whether a word stands for an address beyond the first 256.
-fn is_address(place: Place<'_>, named: &[Named<'_>]) -> bool {
+fn is_address(place: &Place<'_>, named: &[Named<'_>]) -> bool {
     named.iter().any(|one| one.name == place.word)
         || matches!(value(place.word, place.base), Some(number) if number.above_0() > 255)
 }
@@ -119,11 +124,15 @@ fn addressing<'a>(source: &Source<'a>, index: usize, named: &[Named<'_>]) -> Opt
     if !has(b"+ - OR", place.word) {
         return Some(place);
     }
-    [1usize, 2]
+    let before = source
+        .places
+        .get(index.saturating_sub(2)..index)
+        .unwrap_or(&[]);
+    before
         .iter()
-        .filter(|back| **back <= index)
-        .map(|back| source.at(index.saturating_sub(*back)))
-        .find(|place| is_address(*place, named))
+        .rev()
+        .find(|place| is_address(place, named))
+        .copied()
 }
 
 /// An address, and where it is used.
@@ -146,7 +155,7 @@ pub fn addresses<'a>(
             continue;
         }
         if let Some(place) = addressing(source, index, named.as_slice()) {
-            if let Some(number) = address(place, named.as_slice()) {
+            if let Some(number) = address(&place, named.as_slice()) {
                 found.push(AddressUse {
                     place,
                     at: number.low(),
@@ -169,6 +178,11 @@ fn is_cell(source: &Source<'_>, word: &[u8]) -> bool {
             .any(|(a, b)| a.word == word && has(b"@ ! +!", b.word))
 }
 
+/// Whether the words after a variable fetch or store one byte of it.
+fn is_half(next: &[u8], third: &[u8]) -> bool {
+    has(b"C@ C!", next) || matches!(next, b"1+") && has(b"C@ C!", third)
+}
+
 /// Where a program fetches one byte of a variable that it also uses as a cell: which one that is depends on the processor.
 pub fn halves<'a>(alloc: Global, source: &Source<'a>) -> Result<Vec<Place<'a>>, AllocError> {
     let mut found = Vec::new(alloc);
@@ -177,9 +191,7 @@ pub fn halves<'a>(alloc: Global, source: &Source<'a>) -> Result<Vec<Place<'a>>, 
             source.at(index.saturating_add(1)),
             source.at(index.saturating_add(2)),
         );
-        let is_byte = has(b"C@ C!", next.word)
-            || matches!(next.word, b"1+") && has(b"C@ C!", third.word);
-        if is_byte && is_cell(source, place.word) {
+        if is_half(next.word, third.word) && is_cell(source, place.word) {
             found.push(*place)?;
         }
     }

@@ -91,34 +91,38 @@ fn lonely_js<'a>(alloc: Global, source: &Source<'a>) -> Result<Vec<Place<'a>>, A
     for place in source.places.iter() {
         match place.word {
             b":" => (begun, ended) = (0, 0),
-            b"DO" | b"?DO" => begun = begun.saturating_add(1),
-            b"LOOP" | b"+LOOP" | b"/LOOP" => ended = ended.saturating_add(1),
             b"J" if place.is_inside && begun <= ended => found.push(*place)?,
-            _ => {}
+            word => {
+                begun = begun.saturating_add(usize::from(has(b"DO ?DO", word)));
+                ended = ended.saturating_add(usize::from(has(b"LOOP +LOOP /LOOP", word)));
+            }
         }
     }
     Ok(found)
 }
 
-/// Where a program that reads keys compares with 13 or 10.
-pub fn returns<'a>(alloc: Global, source: &Source<'a>) -> Result<Vec<Place<'a>>, AllocError> {
-    let mut found = Vec::new(alloc);
-    if !source
-        .places
-        .iter()
-        .any(|place| matches!(place.word, b"KEY"))
-    {
-        return Ok(found);
-    }
-    for (place, next) in source.places.iter().zip(source.places.iter().skip(1)) {
-        let is_return = matches!(
+/// Whether a program compares a number with what follows it, and the return key gives that number somewhere.
+fn compares_return(place: &Place<'_>, next: &[u8]) -> bool {
+    place.is_inside
+        && has(b"= OF - XOR <> CASE?", next)
+        && matches!(
             value(place.word, place.base),
             Some(Number {
                 is_negative: false,
                 size: 10 | 13
             })
-        );
-        if place.is_inside && is_return && has(b"= OF - XOR <> CASE?", next.word) {
+        )
+}
+
+/// Where a program that reads keys compares with 13 or 10.
+pub fn returns<'a>(alloc: Global, source: &Source<'a>) -> Result<Vec<Place<'a>>, AllocError> {
+    let mut found = Vec::new(alloc);
+    let reads_keys = source
+        .places
+        .iter()
+        .any(|place| matches!(place.word, b"KEY"));
+    for (place, next) in source.places.iter().zip(source.places.iter().skip(1)) {
+        if reads_keys && compares_return(place, next.word) {
             found.push(*place)?;
         }
     }
@@ -150,13 +154,16 @@ fn flag_sums<'a>(alloc: Global, source: &Source<'a>) -> Result<Vec<Place<'a>>, A
     Ok(found)
 }
 
+/// Whether a word is a number below 0, or makes one.
+fn steps_down(word: &[u8]) -> bool {
+    word.starts_with(b"-") && is_plain(word) || has(b"NEGATE MINUS", word)
+}
+
 /// Where a loop goes down.
 fn downwards<'a>(alloc: Global, source: &Source<'a>) -> Result<Vec<Place<'a>>, AllocError> {
     let mut found = Vec::new(alloc);
     for (place, next) in source.places.iter().zip(source.places.iter().skip(1)) {
-        let is_down = place.word.starts_with(b"-") && is_plain(place.word)
-            || has(b"NEGATE MINUS", place.word);
-        if is_down && matches!(next.word, b"+LOOP") {
+        if steps_down(place.word) && matches!(next.word, b"+LOOP") {
             found.push(*next)?;
         }
     }

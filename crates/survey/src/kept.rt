@@ -133,12 +133,13 @@ fn add_parts<'a>(found: &mut Vec<NotKept<'a>>, source: &Source<'a>) -> Result<()
 
 /// Adds where SMUDGE shows a name that CREATE made: it is machine code.
 fn add_smudged<'a>(found: &mut Vec<NotKept<'a>>, source: &Source<'a>) -> Result<(), AllocError> {
+    let has_smudge = !source.defines(b"SMUDGE");
     let mut is_create = false;
     for place in source.places.iter() {
         if !place.is_inside && has(b": CREATE", place.word) {
             is_create = matches!(place.word, b"CREATE");
         }
-        if is_create && matches!(place.word, b"SMUDGE") && !source.defines(b"SMUDGE") {
+        if is_create && has_smudge && matches!(place.word, b"SMUDGE") {
             found.push(NotKept {
                 name: b"CREATE .. SMUDGE",
                 words: [b"", b"", b""],

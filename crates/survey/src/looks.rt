@@ -1,6 +1,7 @@
 //! What the report says of the screens: what they look like, and which bytes are no text.
 
 use crate::page::Page;
+use crate::page::Piece::{Cut, Left, Number, Right, Text};
 use crate::reader::{LINE, Reader};
 use crate::screen::{Kind, Screen, is_bad, twice};
 use crate::words::Word;
@@ -29,8 +30,7 @@ fn put_ranges(page: &mut Page, numbers: &[usize]) -> Result<(), AllocError> {
             page.put_between(index, b" ")?;
             page.put_number(*number)?;
         } else if !goes_on {
-            page.put(b"-")?;
-            page.put_number(*number)?;
+            page.put_all(&[Text(b"-"), Number(*number)])?;
         }
         begins = !goes_on;
     }
@@ -59,11 +59,13 @@ pub fn tell_kinds(
         }
         let mut ranges = Page::new(alloc);
         put_ranges(&mut ranges, numbers.as_slice())?;
-        page.put_left(name, 8)?;
-        page.put_right(numbers.len(), 6)?;
-        page.put(b"  ")?;
-        page.put_cut(ranges.text.as_slice(), WIDE)?;
-        page.put(b"\n")?;
+        page.put_all(&[
+            Left(*name, 8),
+            Right(numbers.len(), 6),
+            Text(b"  "),
+            Cut(ranges.text.as_slice(), WIDE),
+            Text(b"\n"),
+        ])?;
     }
     Ok(())
 }
@@ -111,9 +113,11 @@ pub fn tell_same(page: &mut Page, alloc: Global, screens: &[Screen<'_>]) -> Resu
         }
         list.put_number(*number)?;
     }
-    page.put(b"the same: ")?;
-    page.put_cut(list.text.as_slice(), WIDE)?;
-    page.put(b"\n")
+    page.put_all(&[
+        Text(b"the same: "),
+        Cut(list.text.as_slice(), WIDE),
+        Text(b"\n"),
+    ])
 }
 
 /// Bytes that are no text: which, or 128 for one with a high bit; how many, and where first.
@@ -207,10 +211,7 @@ fn put_byte(page: &mut Page, byte: u8) -> Result<(), AllocError> {
         13 => page.put(b"return"),
         26 => page.put(b"^Z"),
         128 => page.put(b"high bit"),
-        _ => {
-            page.put(b"byte ")?;
-            page.put_number(usize::from(byte))
-        }
+        _ => page.put_all(&[Text(b"byte "), Number(usize::from(byte))]),
     }
 }
 
@@ -222,14 +223,15 @@ pub fn tell_bytes(
 ) -> Result<(), AllocError> {
     let bad = BadBytes::of(alloc, screens)?;
     for one in bad.kinds.iter() {
-        page.put_number(one.count)?;
-        page.put(b" x ")?;
+        page.put_all(&[Number(one.count), Text(b" x ")])?;
         put_byte(page, one.byte)?;
-        page.put(b", first on screen ")?;
-        page.put_number(one.screen)?;
-        page.put(b" line ")?;
-        page.put_number(one.line)?;
-        page.put(b"\n")?;
+        page.put_all(&[
+            Text(b", first on screen "),
+            Number(one.screen),
+            Text(b" line "),
+            Number(one.line),
+            Text(b"\n"),
+        ])?;
     }
     if bad.high > 0 && bad.in_source == 0 && bad.kinds.len() == 1 {
         page.put(
@@ -257,11 +259,13 @@ fn tell_holes(page: &mut Page, screens: &[Screen<'_>]) -> Result<(), AllocError>
             continue;
         }
         if let Some(hole) = hole_in(screen.bytes) {
-            page.put(b"  screen ")?;
-            page.put_number(screen.number)?;
-            page.put(b" has 128 NULs or more from line ")?;
-            page.put_number(hole / LINE)?;
-            page.put(b": was a sector not read? its code is missing\n")?;
+            page.put_all(&[
+                Text(b"  screen "),
+                Number(screen.number),
+                Text(b" has 128 NULs or more from line "),
+                Number(hole / LINE),
+                Text(b": was a sector not read? its code is missing\n"),
+            ])?;
         }
     }
     Ok(())
@@ -273,6 +277,14 @@ fn title_line(text: &[u8]) -> Option<usize> {
         .position(|line| matches!(line, [b'(' | b'\\', b' ', ..]))
 }
 
+/// How many screens of source have their title on a line.
+fn titles_on(screens: &[Screen<'_>], line: usize) -> usize {
+    screens
+        .iter()
+        .filter(|screen| screen.kind == Kind::Source && title_line(screen.text) == Some(line))
+        .count()
+}
+
 /// Says whether the screens seem to begin at another line than the first.
 pub fn tell_shift(page: &mut Page, screens: &[Screen<'_>]) -> Result<(), AllocError> {
     let count = screens
@@ -280,19 +292,18 @@ pub fn tell_shift(page: &mut Page, screens: &[Screen<'_>]) -> Result<(), AllocEr
         .filter(|screen| screen.kind == Kind::Source)
         .count();
     for line in 1..16usize {
-        let titles = screens
-            .iter()
-            .filter(|screen| screen.kind == Kind::Source && title_line(screen.text) == Some(line))
-            .count();
+        let titles = titles_on(screens, line);
         if count >= 4 && twice(titles).saturating_add(titles) > twice(count) {
-            page.put_number(titles)?;
-            page.put(b" of ")?;
-            page.put_number(count)?;
-            page.put(b" titles are on line ")?;
-            page.put_number(line)?;
-            page.put(b": the screens seem to begin there; import again with --offset ")?;
-            page.put_number(line * LINE)?;
-            page.put(b" more\n")?;
+            page.put_all(&[
+                Number(titles),
+                Text(b" of "),
+                Number(count),
+                Text(b" titles are on line "),
+                Number(line),
+                Text(b": the screens seem to begin there; import again with --offset "),
+                Number(line * LINE),
+                Text(b" more\n"),
+            ])?;
         }
     }
     Ok(())

@@ -1,5 +1,7 @@
 //! Names that are looked up often.
 
+ghost use Rattle.std.specs.Prelude.{◌≡◌, ◌++◌, ◌∷◌, [], OnOk};
+
 use std::alloc::{AllocError, Global};
 
 /// Names, in order once they are sorted.
@@ -10,14 +12,18 @@ pub struct Names<'a> {
 
 impl<'a> Names<'a> {
     /// None yet.
-    pub fn new(alloc: Global) -> Names<'a> {
+    pub fn new(alloc: Global) -> Names<'a>
+        ensures { result.names.items ≡ [] }
+    {
         Names {
             names: Vec::new(alloc),
         }
     }
 
     /// Adds a name.
-    pub fn push(&mut self, name: &'a [u8]) -> Result<(), AllocError> {
+    pub fn push(&mut self, name: &'a [u8]) -> Result<(), AllocError>
+        ensures { OnOk result (self.new.names.items ≡ self.old.names.items ++ name.entry ∷ []) }
+    {
         self.names.push(name)?;
         Ok(())
     }

@@ -1,5 +1,8 @@
 //! Numbers, as one dialect or another spells them.
 
+ghost use Rattle.std.specs.Prelude.{◌≡◌};
+ghost use Rattle.survey.specs.Numbers as numbers;
+
 /// Whether all bytes are decimal digits, and there are some.
 fn is_decimal(digits: &[u8]) -> bool {
     !digits.is_empty() && digits.iter().all(|byte| byte.is_ascii_digit())
@@ -16,7 +19,9 @@ fn is_binary(digits: &[u8]) -> bool {
 }
 
 /// Whether the first byte is a decimal digit.
-fn begins_with_digit(word: &[u8]) -> bool {
+fn begins_with_digit(word: &[u8]) -> bool
+    ensures { result ≡ numbers.begins_with_digit word.now }
+{
     match word {
         [first, ..] => first.is_ascii_digit(),
         [] => false,
@@ -103,7 +108,9 @@ pub struct Number {
 
 impl Number {
     /// Its 16 low bits.
-    pub fn low(self) -> u32 {
+    pub fn low(self) -> u32
+        ensures { result ≡ numbers.low self.is_negative self.size }
+    {
         let low = self.size % 65536;
         if self.is_negative {
             (65536 - low) % 65536
@@ -113,7 +120,9 @@ impl Number {
     }
 
     /// The number, or 0 if it is below that.
-    pub fn above_0(self) -> u32 {
+    pub fn above_0(self) -> u32
+        ensures { result ≡ numbers.above_0 self.is_negative self.size }
+    {
         if self.is_negative { 0 } else { self.size }
     }
 }
@@ -143,18 +152,28 @@ fn size_of_digits(digits: &[u8], base: u32) -> Option<u32> {
     Some(size)
 }
 
+/// Whether a word, in capitals, is a number of base 16 by its digits, or by an H at their end.
+fn is_base16(word: &[u8], marked: &[u8], digits: &[u8]) -> bool {
+    is_plain(word) && (digits.len() < marked.len() || !is_decimal(digits))
+}
+
 /// The number that a word, in capitals, spells in this base or with a sign or digits of base 16; None if it is no number.
 pub fn value(word: &[u8], base: u32) -> Option<Number> {
-    let is_negative = word.starts_with(b"-");
-    let (has_dollar, marked) = match unsigned(word) {
-        [b'$', digits @ ..] => (true, digits),
-        digits => (false, digits),
+    let (base, marked) = match unsigned(word) {
+        [b'$', digits @ ..] => (16, digits),
+        digits => (base, digits),
     };
     let digits = without_last(marked, b'H');
-    let has_letter = digits.len() < marked.len();
-    let is_16 = has_dollar || base == 16 || is_plain(word) && (has_letter || !is_decimal(digits));
-    let size = size_of_digits(digits, if is_16 { 16 } else { base })?;
-    Some(Number { is_negative, size })
+    let base = if is_base16(word, marked, digits) {
+        16
+    } else {
+        base
+    };
+    let size = size_of_digits(digits, base)?;
+    Some(Number {
+        is_negative: word.starts_with(b"-"),
+        size,
+    })
 }
 
 /// Whether a word, in capitals, is digits, a colon, and digits and colons.

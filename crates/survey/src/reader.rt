@@ -1,7 +1,7 @@
 //! The words of a screen's source, without those in comments and texts, and after the source's end.
 
 ghost use Rattle.std.specs.Option.{ForSome};
-ghost use Rattle.std.specs.Prelude.{◌<◌, ◌≤◌, IfSome, length};
+ghost use Rattle.std.specs.Prelude.{◌≡◌, ◌<◌, ◌≤◌, IfSome, false, length};
 
 use crate::words::{Word, place_of, word_from};
 
@@ -54,7 +54,11 @@ fn after_code(text: &[u8], from: usize) -> usize {
 
 impl<'a> Reader<'a> {
     /// At the beginning of a screen.
-    pub fn new(text: &'a [u8], is_inside: bool) -> Reader<'a> {
+    pub fn new(text: &'a [u8], is_inside: bool) -> Reader<'a>
+        ensures place { result.at ≡ 0 }
+        ensures text { result.text.now ≡ text.now }
+        ensures inside { (result.is_inside ≡ is_inside) × (result.is_after_colon ≡ false) }
+    {
         Reader {
             text,
             at: 0,

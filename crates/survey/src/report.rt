@@ -5,6 +5,7 @@ use crate::habits::differing_words;
 use crate::looks::{tell_bytes, tell_kinds, tell_same, tell_shift};
 use crate::names::{Names, names_of};
 use crate::page::Page;
+use crate::page::Piece::{Number, Text};
 use crate::screen::{Kind, Screen, Texts, screens_of};
 use crate::signs::signs_of;
 use crate::source::{Source, Use, unknown, uses};
@@ -136,10 +137,12 @@ impl<'s, 'a> Findings<'s, 'a> {
     ) -> Result<(), AllocError> {
         let (source, most) = (self.source, self.asked.most);
         if source.lower_case > 0 {
-            page.put_number(source.lower_case)?;
-            page.put(
-                b" words have lower case, which ./forth and its images accept; `build` and --kernel do not\n",
-            )?;
+            page.put_all(&[
+                Number(source.lower_case),
+                Text(
+                    b" words have lower case, which ./forth and its images accept; `build` and --kernel do not\n",
+                ),
+            ])?;
         }
         tell_own_case(page, source, self.known)?;
         tell_unended(page, source)?;
@@ -183,10 +186,12 @@ fn tell_screens(
     name: &[u8],
     screens: &[Screen<'_>],
 ) -> Result<(), AllocError> {
-    page.put(name)?;
-    page.put(b": ")?;
-    page.put_number(screens.len())?;
-    page.put(b" screens\n")?;
+    page.put_all(&[
+        Text(name),
+        Text(b": "),
+        Number(screens.len()),
+        Text(b" screens\n"),
+    ])?;
     tell_kinds(page, alloc, screens)?;
     tell_same(page, alloc, screens)?;
     tell_bytes(page, alloc, screens)

@@ -144,7 +144,7 @@ fn of_number(word: &[u8]) -> Option<Sign<'static>> {
 const ENDS: &[u8] = b"; ( IMMEDIATE DECIMAL HEX ALLOT LOAD , EMPTY DEFINITIONS \\";
 
 /// What a variable says: whether a value comes before it, or the end of what was before.
-fn of_variable(before: Place<'_>, of: Place<'_>) -> Option<Sign<'static>> {
+fn of_variable(before: &Place<'_>, of: &Place<'_>) -> Option<Sign<'static>> {
     if !matches!(of.word, b"VARIABLE") || of.is_inside {
         return None;
     }
@@ -218,7 +218,7 @@ fn of_tick(c: &[u8]) -> Option<Sign<'static>> {
 }
 
 /// What a word says that begins or ends a screen. EXIT, a habit of polyFORTH, ends it in Forth-79 and F83, too.
-fn of_end(a: Place<'_>, next: Place<'_>) -> Option<Sign<'static>> {
+fn of_end(a: &Place<'_>, next: &Place<'_>) -> Option<Sign<'static>> {
     match a.word {
         b"EXIT" if !a.is_inside && next.screen != a.screen => {
             Some(pattern(b"EXIT that ends a screen", F79_POLY, 1))
@@ -345,7 +345,7 @@ fn add_of_place<'a>(
     } else {
         source.at(index - 1)
     };
-    add(found, of_variable(before, place))?;
+    add(found, of_variable(&before, &place))?;
     if matches!(place.word, b"SIGN") {
         add(found, of_picture(source, index))?;
     }
@@ -357,7 +357,7 @@ fn add_of_place<'a>(
         add(found, of_word(place.word, next.word, third.word))?;
     }
     if matches!(place.word, b"EXIT") || !source.defines(place.word) {
-        add(found, of_end(place, next))?;
+        add(found, of_end(&place, &next))?;
     }
     Ok(())
 }

@@ -1,6 +1,7 @@
 //! What the report says of dialects.
 
 use crate::page::Page;
+use crate::page::Piece::{Number, Text};
 use crate::screen::{BLOCK, is_blank, is_of_dialect};
 use crate::signs::{Sign, is_known_word};
 use crate::source::Use;
@@ -26,8 +27,8 @@ fn put_sign(page: &mut Page, sign: &Sign<'_>) -> Result<(), AllocError> {
     let mut count = 0usize;
     for system in &SYSTEMS {
         if has(system.glossary(), sign.what) {
-            page.put(if count == 0 { b" of " } else { b" and " })?;
-            page.put(system.name())?;
+            let between: &[u8] = if count == 0 { b" of " } else { b" and " };
+            page.put_all(&[Text(between), Text(system.name())])?;
             count = count.saturating_add(1);
         }
     }
@@ -130,21 +131,24 @@ fn tell_load(
     blocks: &[u8],
     is_guess: bool,
 ) -> Result<(), AllocError> {
+    let first = first_of(dialect.screens());
     page.put(b"  ")?;
     if is_guess {
-        page.put(b"if it is ")?;
-        page.put(dialect.name())?;
-        page.put(b": ")?;
+        page.put_all(&[Text(b"if it is "), Text(dialect.name()), Text(b": ")])?;
     }
-    page.put(b"./forth83 screens screens/dialects/")?;
-    page.put(dialect.key())?;
-    page.put(b".txt YOUR.blk, and ")?;
-    page.put_number(first_of(dialect.screens()))?;
-    page.put(b" LOAD before the first old screen\n")?;
+    page.put_all(&[
+        Text(b"./forth83 screens screens/dialects/"),
+        Text(dialect.key()),
+        Text(b".txt YOUR.blk, and "),
+        Number(first),
+        Text(b" LOAD before the first old screen\n"),
+    ])?;
     if is_taken(blocks, dialect) {
-        page.put(b"  this file uses the screens from ")?;
-        page.put_number(first_of(dialect.screens()))?;
-        page.put(b" on: load the dialect into an image, as docs/OLD-SOURCES.md shows\n")?;
+        page.put_all(&[
+            Text(b"  this file uses the screens from "),
+            Number(first),
+            Text(b" on: load the dialect into an image, as docs/OLD-SOURCES.md shows\n"),
+        ])?;
     }
     Ok(())
 }
@@ -171,9 +175,7 @@ fn tell_systems(page: &mut Page, alloc: Global, uses: &[Use<'_>]) -> Result<(), 
         if words.is_empty() {
             continue;
         }
-        page.put(b"  words of ")?;
-        page.put(system.name())?;
-        page.put(b": ")?;
+        page.put_all(&[Text(b"  words of "), Text(system.name()), Text(b": ")])?;
         for (index, word) in words.iter().take(SEVERAL).enumerate() {
             page.put_between(index, b", ")?;
             page.put(word)?;
@@ -185,41 +187,45 @@ fn tell_systems(page: &mut Page, alloc: Global, uses: &[Use<'_>]) -> Result<(), 
 
 /// Says how the text of a system is loaded.
 fn tell_system_load(page: &mut Page, system: System) -> Result<(), AllocError> {
-    page.put(b"; ./forth83 screens screens/dialects/")?;
-    page.put(system.key())?;
-    page.put(b".txt YOUR.blk, and ")?;
-    page.put_number(first_of(system.screens()))?;
-    page.put(b" LOAD after ")?;
-    page.put(system.dialect().name())?;
-    page.put(b"\n")
+    page.put_all(&[
+        Text(b"; ./forth83 screens screens/dialects/"),
+        Text(system.key()),
+        Text(b".txt YOUR.blk, and "),
+        Number(first_of(system.screens())),
+        Text(b" LOAD after "),
+        Text(system.dialect().name()),
+        Text(b"\n"),
+    ])
 }
 
 /// Which dialect it is, or between which it is undecided, and the signs for it.
 fn tell_verdict(page: &mut Page, alloc: Global, verdict: &Verdict<'_>) -> Result<(), AllocError> {
-    page.put(b"dialect: ")?;
     if verdict.certainty == Certainty::Undecided {
-        page.put(b"undecided between ")?;
+        page.put(b"dialect: undecided between ")?;
         put_dialects(page, verdict.dialects.as_slice())?;
         page.put(b", ")?;
         put_undecided(page, alloc, verdict)?;
-        page.put(b"\n")?;
     } else {
+        page.put(b"dialect: ")?;
         put_dialects(page, verdict.dialects.as_slice())?;
-        page.put(if verdict.certainty == Certainty::Surely {
-            b", surely\n"
-        } else {
-            b", probably\n"
+        page.put(match verdict.certainty {
+            Certainty::Surely => b", surely\n  signs for it: ",
+            _ => b", probably\n  signs for it: ",
         })?;
-        page.put(b"  signs for it: ")?;
         put_signs(page, verdict.reasons.as_slice(), MOST_FOR)?;
-        page.put(b"\n")?;
     }
-    if !verdict.against.is_empty() {
-        page.put(b"  signs against it: ")?;
-        put_signs_of(page, verdict.against.as_slice(), MOST_AGAINST)?;
-        page.put(b"\n")?;
+    page.put(b"\n")?;
+    tell_against(page, verdict.against.as_slice())
+}
+
+/// Says which signs are against a dialect, if some are.
+fn tell_against(page: &mut Page, against: &[Sign<'_>]) -> Result<(), AllocError> {
+    if against.is_empty() {
+        return Ok(());
     }
-    Ok(())
+    page.put(b"  signs against it: ")?;
+    put_signs_of(page, against, MOST_AGAINST)?;
+    page.put(b"\n")
 }
 
 /// How many words stay unknown after each dialect, and without one.
@@ -231,13 +237,9 @@ fn tell_counts(
     page.put(b"  words still unknown after each: ")?;
     for (index, (dialect, count)) in counts.iter().enumerate() {
         page.put_between(index, b", ")?;
-        page.put(dialect.name())?;
-        page.put(b" ")?;
-        page.put_number(*count)?;
+        page.put_all(&[Text(dialect.name()), Text(b" "), Number(*count)])?;
     }
-    page.put(b"; without a dialect ")?;
-    page.put_number(alone)?;
-    page.put(b"\n")
+    page.put_all(&[Text(b"; without a dialect "), Number(alone), Text(b"\n")])
 }
 
 /// What is known before the dialect is named.
@@ -272,11 +274,13 @@ pub fn tell_dialect(
         return Ok(false);
     }
     if is_open && known.counts.iter().all(|(_, count)| *count >= known.alone) {
-        page.put(
-            b"dialect: undecided, because no word differs between them, and none of them has the ",
-        )?;
-        page.put_number(known.alone)?;
-        page.put(b" unknown words below\n")?;
+        page.put_all(&[
+            Text(
+                b"dialect: undecided, because no word differs between them, and none of them has the ",
+            ),
+            Number(known.alone),
+            Text(b" unknown words below\n"),
+        ])?;
         return Ok(false);
     }
     tell_verdict(page, alloc, verdict)?;

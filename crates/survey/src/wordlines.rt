@@ -5,6 +5,7 @@ use crate::habits::{Differing, differing_words, returns};
 use crate::kept::{NotKept, not_kept};
 use crate::names::Names;
 use crate::page::Page;
+use crate::page::Piece::{Address, Cut, Left, Number, Right, Text};
 use crate::source::{Made, OWN_CASE, Place, Source, Use};
 use crate::telling::SEVERAL;
 use crate::verdict::Verdict;
@@ -19,9 +20,26 @@ const WIDE: usize = 400;
 
 /// Adds a word, how often it is used, and where.
 fn put_places(page: &mut Page, places: &[Place<'_>], most: usize) -> Result<(), AllocError> {
-    page.put_right(places.len(), 5)?;
-    page.put(b"  ")?;
+    page.put_all(&[Right(places.len(), 5), Text(b"  ")])?;
     page.put_spots(places, most)
+}
+
+/// Adds the dialects in which a word means this, and the meaning.
+fn put_meaning(
+    page: &mut Page,
+    one: &Differing<'_>,
+    meaning: &[u8],
+    among: &[Dialect],
+) -> Result<(), AllocError> {
+    let mut count = 0usize;
+    for dialect in among {
+        if one.meaning.of(*dialect) == meaning {
+            page.put_between(count, b", ")?;
+            page.put(dialect.name())?;
+            count = count.saturating_add(1);
+        }
+    }
+    page.put_all(&[Text(b": "), Text(meaning)])
 }
 
 /// Adds what a word means in these dialects: those first that mean the same as the first one.
@@ -38,16 +56,7 @@ fn put_meanings(page: &mut Page, one: &Differing<'_>, among: &[Dialect]) -> Resu
         }
         page.put_between(groups, b"; ")?;
         groups = groups.saturating_add(1);
-        let mut count = 0usize;
-        for dialect in among {
-            if one.meaning.of(*dialect) == meaning {
-                page.put_between(count, b", ")?;
-                page.put(dialect.name())?;
-                count = count.saturating_add(1);
-            }
-        }
-        page.put(b": ")?;
-        page.put(meaning)?;
+        put_meaning(page, one, meaning, among)?;
     }
     Ok(())
 }
@@ -68,17 +77,12 @@ pub fn tell_meanings(
     page.put(b"these words differ between ")?;
     match among {
         [one] => page.put(one.name())?,
-        [one, other] => {
-            page.put(one.name())?;
-            page.put(b" and ")?;
-            page.put(other.name())?;
-        }
+        [one, other] => page.put_all(&[Text(one.name()), Text(b" and "), Text(other.name())])?,
         _ => page.put(b"these dialects")?,
     }
     page.put(b"; how often they are used, and where, as screen:line:\n")?;
     for one in found.iter() {
-        page.put(b"  ")?;
-        page.put_left(one.what, 16)?;
+        page.put_all(&[Text(b"  "), Left(one.what, 16)])?;
         put_places(page, one.places.as_slice(), most)?;
         page.put(b"  (")?;
         put_meanings(page, one, among)?;
@@ -131,12 +135,10 @@ pub fn tell_not_kept(
                 places.push(other.place)?;
             }
         }
-        page.put(b"  ")?;
-        page.put_left(written(alloc, one)?.text.as_slice(), 16)?;
+        let name = written(alloc, one)?;
+        page.put_all(&[Text(b"  "), Left(name.text.as_slice(), 16)])?;
         put_places(page, places.as_slice(), most)?;
-        page.put(b"  ")?;
-        page.put(one.why)?;
-        page.put(b"\n")?;
+        page.put_all(&[Text(b"  "), Text(one.why), Text(b"\n")])?;
     }
     Ok(())
 }
@@ -167,6 +169,15 @@ pub fn tell_keys(
     Ok(())
 }
 
+/// Adds a note, if there is one, and the end of the line.
+fn put_note(page: &mut Page, note: &[u8]) -> Result<(), AllocError> {
+    if note.is_empty() {
+        page.put(b"\n")
+    } else {
+        page.put_all(&[Text(b"  "), Text(note), Text(b"\n")])
+    }
+}
+
 /// The machine that has something at an address.
 fn machine_of(at: u32) -> &'static [u8] {
     match MAPS.iter().find(|map| map.first <= at && at <= map.last) {
@@ -185,10 +196,9 @@ fn span(alloc: Global, found: &[AddressUse<'_>], machine: &[u8]) -> Result<Page,
         }
     }
     let mut text = Page::new(alloc);
-    text.put_address(first)?;
+    text.put_all(&[Address(first)])?;
     if first < last {
-        text.put(b"-")?;
-        text.put_address(last)?;
+        text.put_all(&[Text(b"-"), Address(last)])?;
     }
     Ok(text)
 }
@@ -218,14 +228,10 @@ pub fn tell_addresses(
                 places.push(other.place)?;
             }
         }
-        page.put(b"  ")?;
-        page.put_left(span(alloc, found.as_slice(), machine)?.text.as_slice(), 16)?;
+        let span = span(alloc, found.as_slice(), machine)?;
+        page.put_all(&[Text(b"  "), Left(span.text.as_slice(), 16)])?;
         put_places(page, places.as_slice(), most)?;
-        if !machine.is_empty() {
-            page.put(b"  ")?;
-            page.put(machine)?;
-        }
-        page.put(b"\n")?;
+        put_note(page, machine)?;
     }
     Ok(())
 }
@@ -272,18 +278,16 @@ fn put_word(
     advice: &[u8],
 ) -> Result<(), AllocError> {
     let place = source.at(one.first);
-    page.put(b"  ")?;
-    page.put_left(one.word, 16)?;
-    page.put_right(one.count, 5)?;
-    page.put(b"  screen ")?;
-    page.put_number(place.screen)?;
-    page.put(b" line ")?;
-    page.put_number(place.line)?;
-    if !advice.is_empty() {
-        page.put(b"  ")?;
-        page.put(advice)?;
-    }
-    page.put(b"\n")
+    page.put_all(&[
+        Text(b"  "),
+        Left(one.word, 16),
+        Right(one.count, 5),
+        Text(b"  screen "),
+        Number(place.screen),
+        Text(b" line "),
+        Number(place.line),
+    ])?;
+    put_note(page, advice)
 }
 
 /// Adds words that are unknown, too, without lines of their own.
@@ -293,11 +297,13 @@ fn put_more(page: &mut Page, words: &[Use<'_>]) -> Result<(), AllocError> {
         list.put_between(index, b" ")?;
         list.put(one.word)?;
     }
-    page.put(b"  and ")?;
-    page.put_number(words.len())?;
-    page.put(b" more: ")?;
-    page.put_cut(list.text.as_slice(), WIDE)?;
-    page.put(b"\n")
+    page.put_all(&[
+        Text(b"  and "),
+        Number(words.len()),
+        Text(b" more: "),
+        Cut(list.text.as_slice(), WIDE),
+        Text(b"\n"),
+    ])
 }
 
 /// Words of a report: those that are unknown after the dialects, and all words that the source does not define.
@@ -320,9 +326,11 @@ fn tell_unknown(
     known: &Names<'_>,
     unknown: &[Use<'_>],
 ) -> Result<(), AllocError> {
-    page.put(b"unknown words: ")?;
-    page.put_number(unknown.len())?;
-    page.put(b"; how often they are used, where first, and what to do if that is clear:\n")?;
+    page.put_all(&[
+        Text(b"unknown words: "),
+        Number(unknown.len()),
+        Text(b"; how often they are used, where first, and what to do if that is clear:\n"),
+    ])?;
     for one in unknown.iter().take(MOST_WORDS) {
         put_word(page, source, one, advice(one.word, dialects, known))?;
     }
@@ -360,13 +368,15 @@ pub fn tell_words(
 /// Says which definitions don't end.
 pub fn tell_unended(page: &mut Page, source: &Source<'_>) -> Result<(), AllocError> {
     for open in source.unended.iter() {
-        page.put(b"screen ")?;
-        page.put_number(open.screen)?;
-        page.put(b" line ")?;
-        page.put_number(open.line)?;
-        page.put(b": the definition of ")?;
-        page.put(open.name)?;
-        page.put(b" has no ; before the next definition\n")?;
+        page.put_all(&[
+            Text(b"screen "),
+            Number(open.screen),
+            Text(b" line "),
+            Number(open.line),
+            Text(b": the definition of "),
+            Text(open.name),
+            Text(b" has no ; before the next definition\n"),
+        ])?;
     }
     Ok(())
 }
@@ -425,9 +435,7 @@ pub fn tell_cases(
     page.put(b"names in upper and lower case, which only F83 treats as the same: ")?;
     for (index, (made, used)) in found.iter().take(SEVERAL).enumerate() {
         page.put_between(index, b", ")?;
-        page.put(made)?;
-        page.put(b" as ")?;
-        page.put(used)?;
+        page.put_all(&[Text(*made), Text(b" as "), Text(*used)])?;
     }
     page.put(b"\n")
 }
@@ -458,13 +466,10 @@ pub fn tell_own_case(
             if screen.is_some() {
                 page.put(b", which the Forth has: if it refuses them, leave them out\n")?;
             }
-            page.put(b"screen ")?;
-            page.put_number(one.screen)?;
-            page.put(b" defines")?;
+            page.put_all(&[Text(b"screen "), Number(one.screen), Text(b" defines")])?;
             screen = Some(one.screen);
         }
-        page.put(b" ")?;
-        page.put(one.name)?;
+        page.put_all(&[Text(b" "), Text(one.name)])?;
     }
     page.put(b", which the Forth has: if it refuses them, leave them out\n")
 }
