@@ -91,6 +91,10 @@ are words as others, and the source goes on after EXIT. F83 has (S, and neither 
     LABEL               2  screen 1 line 3* (glob)
     S"                  1  screen 0 line 3* (glob)
 
+A definition with DOES> alone makes names too, since a word before it has made the entry:
+
+  $ new '% screen 0\n( One )\n: ENTRY WHIRR DOES> @ ; ENTRY GADGET GADGET\n'; survey; said WHIRR; unsaid GADGET
+
 Addresses of other machines:
 
   $ new "$(part 0)"'\n% screen 1\n( Two )\n: RED 2 53280 C! ;\n: PIXEL 15360 + C! ;\n: BACK-ONE 5 BLOCK 2 - @ ;\n'; survey
@@ -99,6 +103,7 @@ Addresses of other machines:
   > : VOL SID 24 + C! ; : V2 15 SID 4 + C! ;\n: V3 54272 + C! ; : V4 15 54296 C! ; : V5 0D418 C! ;
   > : CHIP 54272 + ; : V6 15 24 CHIP C! ; : V7 4 SID + C@ ;\n5 CONSTANT STEPS '"'"' STEPS @ .\n'; survey
   $ said 'C030                1  1:1  Apple II'; said 'D400-D418           8  1:1 1:2 1:3 1:4  Commodore 64 or Atari'; unsaid 0005
+  $ new "$(part 0)"'\n% screen 1\n( Octal )\nOCTAL : RED 2 150020 C! ; DECIMAL\n'; survey; said 'D010                1  1:1  Commodore 64 or Atari'
   $ new '% screen 0\n( One )\nHEX : ADC 20 OR B030 C! BEGIN B030 C@ 80 AND UNTIL B031 C@ ;\n'; survey
   $ said 'load the one of their system'; said 'B030-B031           3  0:1  68HC11'
 
