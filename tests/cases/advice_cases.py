@@ -4,6 +4,8 @@ import pathlib
 import subprocess
 from typing import Any, Callable, List, NamedTuple
 
+from tally import Must
+
 FILE = pathlib.Path(__file__).resolve().parent / "advice_cases.txt"
 ROOM, SHORT_ROOM, REFUSED = 4096, 3, 23
 FILLED = b"\x5a"  # what a room has before a call
@@ -54,7 +56,7 @@ def in_c(calls: Any, one: Case, room: int = ROOM) -> str:
     return said(place.raw[: size.value].decode()) if is_beside else "more than the answer was written"
 
 
-def try_program(program: str, must: Callable[[object, str], None]) -> int:
+def try_program(program: str, must: Must) -> int:
     """All cases over the program: how many there are."""
     for one in cases():
         got = by_program(program, one)
@@ -62,7 +64,7 @@ def try_program(program: str, must: Callable[[object, str], None]) -> int:
     return len(cases())
 
 
-def try_library(calls: Any, must: Callable[[object, str], None]) -> int:
+def try_library(calls: Any, must: Must) -> int:
     """All cases over the C library, of each answer also that it fits its own size and no smaller one: how many there are."""
     for one in cases():
         got, size = in_c(calls, one), len(one.wanted[2:])
@@ -74,7 +76,7 @@ def try_library(calls: Any, must: Callable[[object, str], None]) -> int:
     return len(cases())
 
 
-def try_page(says: Callable[[List[List[str]]], str], must: Callable[[object, str], None]) -> int:
+def try_page(says: Callable[[List[List[str]]], str], must: Must) -> int:
     """All cases that have an answer over the page, which gives the lines of a case to a function: how many there are."""
     answered = [one for one in cases() if one.wanted[0] == "="]
     for one in answered:

@@ -13,6 +13,7 @@ from itertools import zip_longest
 from typing import Any, Callable, Dict, Iterator, List, NamedTuple, Tuple
 
 import teaching_runs
+from tally import Must
 
 ROOT = pathlib.Path(__file__).resolve().parents[2]
 sys.path += [str(ROOT / "teaching"), str(ROOT / "commands")]
@@ -25,7 +26,6 @@ SIZE, WIDTH = 1024, 64
 SECONDS = 30  # of processor time for the whole class: so on an idle machine it takes no longer, even with one processor
 NOT_RIGHT = "not right"  # of a screen that destroys the machine's memory: what CHECK does then is not known by hand
 Screens = Dict[int, List[str]]
-Must = Callable[[object, str], None]
 
 
 class Pupil(NamedTuple):
@@ -184,7 +184,7 @@ def course_of(program: pathlib.Path, folder: pathlib.Path) -> Tuple[bytes, bytes
     blocks, image = folder / "course.blk", folder / "course.img"
     course = ROOT / "screens/course/course.txt"
     for words in (["new", blocks, "64"], ["screens", course, blocks], ["load", "--where", session_image(program), blocks, "1", "1", image]):
-        subprocess.run([program, *words], check=True, stdout=subprocess.DEVNULL)
+        subprocess.run([program, *map(str, words)], check=True, stdout=subprocess.DEVNULL)
     return blocks.read_bytes(), image.read_bytes()
 
 
@@ -326,8 +326,8 @@ def check_course_options(tree: teaching_runs.Tree) -> None:
     tree.cases.holds("the text of a lesson", "<strong>Exercise</strong>, in screen 28: REVERSED", made)
     # 70 letters; 8 spaces for the tab and 60 letters; 64 bytes, of which 32 are written as ~C3; 70 letters
     (tree.room / "long.txt").write_text(f"% screen 25\n{'x' * 70}\n\t{'x' * 60}\n%~{'a~C3' * 32}\n{'x' * 70}\n", encoding="ascii")
-    status, said = tree.run(["./forth", "blocks", "long.txt", "long.blk"])
-    tree.cases.same(f"all lines of a text that are too long: {said!r}", (1, True), (status, b"more than 64 bytes: lines 2, 3, 5\n" in said))
+    status, said = tree.tool("blocks", "long.txt", "long.blk")
+    tree.cases.same(f"all lines of a text that are too long: {said}", (1, True), (status, "more than 64 bytes: lines 2, 3, 5\n" in said))
     (tree.room / "own.txt").write_text("% screen 25\n( Lesson 5: <own> )\n( write )\n% screen 45\nALL-RIGHT\n", encoding="ascii")
     status, said = tree.tool("course", "--sheets", "--course", "own.txt", "-o", "own.html")
     tree.cases.same(f"a page of one lesson: {said}", (0, 1), (status, (tree.room / "own.html").read_text(encoding="utf-8").count("5. &lt;own&gt;")))

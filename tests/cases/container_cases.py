@@ -9,8 +9,10 @@ import hashlib
 import pathlib
 from typing import Any, Callable, Iterator, NamedTuple, Tuple
 
+from tally import Must
+
 TEXT = pathlib.Path(__file__).resolve().parent / "container_cases.txt"
-Expect = Callable[[str, object, object], None]
+Expect = Callable[[str, object, object], object]
 
 
 class Case(NamedTuple):
@@ -42,7 +44,7 @@ def piece(text: str) -> bytes:
     if word == "hex":
         return bytes.fromhex(rest[0])
     count, _, quoted = text.rpartition(" x ")
-    return int(count or "1") * ast.literal_eval(f"b{quoted}")  # type: ignore
+    return int(count or "1") * ast.literal_eval(f"b{quoted}")
 
 
 def made(recipe: str) -> bytes:
@@ -95,7 +97,7 @@ def in_c(calls: Any, case: Case) -> str:
     return answer() if status == 0 else f"refused: {said.raw[:said_size.value].decode()}" if status == 23 else f"status {status}"
 
 
-def try_library(calls: Any, must: Callable[[object, str], None]) -> int:
+def try_library(calls: Any, must: Must) -> int:
     """All cases over the C library: how many there are."""
     count = 0
     for count, case in enumerate(cases(), 1):
@@ -136,7 +138,7 @@ def try_terminal(folder: Any, expect: Expect) -> None:
                 expect(f"{reads}: {case.options} {case.recipe[:80]}: {got}", ("refused", True), (got[:7], is_said))
 
 
-def try_page(asks: Callable[[str, bytes], Tuple[int, bytes, str]], must: Callable[[object, str], None]) -> int:
+def try_page(asks: Callable[[str, bytes], Tuple[int, bytes, str]], must: Must) -> int:
     """The cases that a page reads, by `asks`: the number of the first block and the blocks, or why they are not read. How many there are."""
     read = [case for case in cases() if case.call in ("reads", "refused")]
     for case in read:

@@ -20,8 +20,8 @@ def check(tree: teaching_runs.Tree) -> int:
             tree.forth("screens", "answer.txt", "answer.blk")
             status, said = tree.run(["timeout", LIMIT, "./forth", "answer.blk"], typed)
             name = f"lesson {lesson.number}, {answer.title}"
-            tree.cases.same(f"{name}: {said[-300:]}", answer.is_right, f"Lesson {lesson.number} is right".encode() in said)
+            tree.cases.same(f"{name}: {said[-300:]!r}", answer.is_right, f"Lesson {lesson.number} is right".encode() in said)
             if status == 0:
-                tree.cases.same(f"{name}: the next CHECK: {said[-300:]}", True, f"Lesson {other} is right".encode() in said)
+                tree.cases.same(f"{name}: the next CHECK: {said[-300:]!r}", True, f"Lesson {other} is right".encode() in said)
             count += 1
     return count

@@ -10,6 +10,8 @@ import subprocess
 import tempfile
 from typing import Any, Callable, Dict, Iterator, List, NamedTuple, Tuple
 
+from tally import Must
+
 HERE = pathlib.Path(__file__).resolve().parent
 PAGE = 1024
 CAUSES = ("OutOfMemory", "BadEscape", "LongLine", "FullScreen", "BadHeading", "LateHeading", "NamedTwice", "NoScreen")
@@ -128,7 +130,7 @@ def written_by(calls: Any, number: int, page: bytes) -> Tuple[int, bytes]:
     return status, room.raw[: size.value]
 
 
-def try_cases(what: str, reads: Reads, must: Callable[[object, str], object], tried: List[Case]) -> int:
+def try_cases(what: str, reads: Reads, must: Must, tried: List[Case]) -> int:
     """All these cases: how many there are."""
     for case in tried:
         got = reads(case.text)
@@ -136,7 +138,7 @@ def try_cases(what: str, reads: Reads, must: Callable[[object, str], object], tr
     return len(tried)
 
 
-def try_alike(texts: List[bytes], one: Reads, other: Reads, must: Callable[[object, str], object]) -> None:
+def try_alike(texts: List[bytes], one: Reads, other: Reads, must: Must) -> None:
     """Two readers give the same answers."""
     for text in texts:
         answers = one(text), other(text)

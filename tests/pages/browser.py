@@ -12,7 +12,7 @@ import shutil
 import subprocess
 import tempfile
 import time
-from typing import Any, Dict, List, Tuple
+from typing import Any, Dict, List, Optional, Tuple
 
 OPTIONS = ("--headless", "--no-sandbox", "--disable-gpu", "--hide-scrollbars", "--remote-debugging-pipe", "--disable-background-networking")
 NAMES = ("chromium", "chromium-browser", "google-chrome")
@@ -36,8 +36,8 @@ LONGEST = 180  # seconds without a message
 
 
 def chromium() -> str:
-    """The browser's path, or None."""
-    return next((path for path in map(shutil.which, NAMES) if path), None)
+    """The browser's path, or an empty text."""
+    return next((path for path in (shutil.which(name) for name in NAMES) if path), "")
 
 
 class Browser:
@@ -61,11 +61,12 @@ class Browser:
         os.set_inheritable(to_write, True)
         words = [chromium(), *OPTIONS, f"--user-data-dir={self.room.name}", f"--window-size={self.shape[0]},{self.shape[1]}", "about:blank"]
         command = ["bash", "-c", f'exec "$@" 3<&{to_read} 4>&{to_write}', "browser", *words]
-        nowhere = {"stdin": subprocess.DEVNULL, "stdout": subprocess.DEVNULL, "stderr": subprocess.DEVNULL}
-        self.running = subprocess.Popen(command, pass_fds=(to_read, to_write), **nowhere)
+        nowhere = subprocess.DEVNULL
+        self.running = subprocess.Popen(command, pass_fds=(to_read, to_write), stdin=nowhere, stdout=nowhere, stderr=nowhere)
         os.close(to_read)
         os.close(to_write)
-        self.rest, self.number, self.session, self.events = b"", 0, "", []
+        self.rest, self.number, self.session = b"", 0, ""
+        self.events: List[Optional[str]] = []
         self.window(next(one for one in self.call("Target.getTargets")["targetInfos"] if one["type"] == "page")["targetId"])
 
     def window(self, target: str = "") -> str:

@@ -20,7 +20,7 @@ DATA = re.compile(r'(<script type="text/plain" id="packed-(data|image)" data-siz
 def unpacked(page: str) -> Dict[str, Any]:
     """A page's data."""
     found = {one[2]: one[5] for one in DATA.finditer(page)}
-    return json.loads(zlib.decompress(base64.b64decode(found["data"]), -15))  # type: ignore
+    return json.loads(zlib.decompress(base64.b64decode(found["data"]), -15))
 
 
 def packed(content: bytes) -> str:

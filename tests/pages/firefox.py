@@ -57,7 +57,7 @@ def letters(text: str) -> List[str]:
 
 def firefox() -> str:
     """The browser's path, or an empty text."""
-    return next((path for path in map(shutil.which, NAMES) if path), None) or ""
+    return next((path for path in (shutil.which(name) for name in NAMES) if path), "")
 
 
 def free_port() -> int:

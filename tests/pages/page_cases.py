@@ -3,6 +3,7 @@ import pathlib
 import re
 import sys
 import zlib
+from typing import Dict
 
 import node
 import page_steps
@@ -53,9 +54,9 @@ def check_contents(cases: Tally) -> None:
     wanted = FIRST + "<details><summary>Hints</summary><ul><li>+: a &lt; b</li><li>.: last</li></ul></details>"
     cases.must(helped == wanted, f"a lesson with hints: {helped}")
     words = {word[0]: word[1:] for word in contents.manual()}
-    wanted = ["( x -- x x )", "The data stack", "Copies the top. Example: <code>3 DUP . .</code> shows <code>3 3</code>."]
-    cases.must(words["DUP"] == wanted and "HISTORY" not in words, f"the manual: {words['DUP']}")
-    helping = [lesson["number"] for lesson in contents.course() if "<summary>Hints" in lesson["html"]]
+    of_dup = ["( x -- x x )", "The data stack", "Copies the top. Example: <code>3 DUP . .</code> shows <code>3 3</code>."]
+    cases.must(words["DUP"] == of_dup and "HISTORY" not in words, f"the manual: {words['DUP']}")
+    helping = [lesson["number"] for lesson in contents.course() if "<summary>Hints" in str(lesson["html"])]
     cases.must(helping == [lesson.number for lesson in course_lessons.read() if lesson.hints] != [], f"lessons with hints: {helping}")
 
 
@@ -106,7 +107,7 @@ def check_modules(cases: Tally) -> None:
         print("check-page: there is no node here; the page's modules are tried in the browser alone")
         return
     files = [*PAGE.glob("*.js"), *(assembly.SHARED / name for name in SHARED)]
-    data = {"door": contents.door(), **contents.texts({}), "layout": records.layout()}
+    data: Dict[str, object] = {"door": contents.door(), **contents.texts({}), "layout": records.layout()}
     with node.Node(files, data) as host:
         runner = page_steps.Runner(host, PAGE, cases)
         runner.given["services"] = " ".join(sorted(set(table.NAMES) - {"PROMPT"}))

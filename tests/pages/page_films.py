@@ -30,7 +30,7 @@ def debugged(program: pathlib.Path, image: pathlib.Path, kernel: pathlib.Path, r
     return teaching_runs.lines_of(room / "film.steps")
 
 
-def filmed(runner: Runner, word: str, source: str, line: str) -> List[teaching_runs.Line]:
+def filmed(runner: Runner, word: str, source: str, line: str) -> List[object]:
     """The steps that the page shows."""
     runner.value("page.session.start(builtIn('forth.blk')); 0")
     runner.idle()

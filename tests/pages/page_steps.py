@@ -36,7 +36,12 @@ def tools(room: pathlib.Path, program: pathlib.Path, how: str) -> Dict[str, obje
     """Commands for cases, in the folder `bin` of the room, and the variables that they have: TREE, in which PROGRAM counts as proved, and SESSION, the image
     of a session."""
     (room / "bin").mkdir()
-    for name, words in (("forth83", [program]), ("make-page", [sys.executable, "-B", ROOT / "page/make", "--program", program, how]), ("other-edition", [HERE / "editions.py"])):
+    commands: Dict[str, List[object]] = {
+        "forth83": [program],
+        "make-page": [sys.executable, "-B", ROOT / "page/make", "--program", program, how],
+        "other-edition": [HERE / "editions.py"],
+    }
+    for name, words in commands.items():
         (room / "bin" / name).write_text(f'#!/bin/sh\nexec {" ".join(shlex.quote(str(word)) for word in words)} "$@"\n', encoding="utf-8")
         (room / "bin" / name).chmod(0o755)
     subprocess.run([ROOT / "tests/shared/lay-built", program, room / "tree"], check=True)
@@ -222,7 +227,8 @@ class Runner:
         self.got = "the page doesn't start"
         self.must(self.until(lambda: self.value(READY)))
         self.value(f"{ACTS}, 0")
-        self.value("document.getElementById('ask').open || 0") or self.idle()
+        if not self.value("document.getElementById('ask').open || 0"):
+            self.idle()
         self.mark = 0
 
     def do_forget(self, step: Step) -> None:

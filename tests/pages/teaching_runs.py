@@ -16,6 +16,8 @@ import module  # noqa: E402
 
 # What the page of a film has about it.
 Film = Any
+# A step as a line of a trace is: place, name, both stacks; and what is shown, the frame.
+FilmStep = Tuple[Optional[int], Optional[str], Tuple[int, ...], Tuple[int, ...], int, int]
 # A line that `debug` wrote: the place, the word's name, and both stacks.
 Line = Tuple[int, str, Tuple[int, ...], Tuple[int, ...]]
 WORDS = (ROOT / "tests/cases/pages/words/films.txt").read_text(encoding="ascii")
@@ -65,7 +67,7 @@ class Tree:
     def forth(self, *words: str) -> None:
         """A subcommand, which must not be refused."""
         status, said = self.run([self.forth83, *words])
-        self.cases.same(f"the status of {words}, which said {said}", 0, status)
+        self.cases.same(f"the status of {words}, which said {said!r}", 0, status)
 
     def run(self, words: List[Union[pathlib.Path, str]], typed: Optional[bytes] = None) -> Tuple[int, bytes]:
         """The status, and what was printed: standard output and then standard error."""
@@ -89,9 +91,10 @@ class Tree:
         return self.browser.value("film")
 
 
-def expanded(data: Film) -> List[Tuple[Optional[int], Optional[str], Tuple[int, ...], Tuple[int, ...], int, int]]:
-    """The film's steps as lines of a trace are: place, name, both stacks; and what is shown, the frame."""
-    stacks, found = ([], []), []
+def expanded(data: Film) -> List[FilmStep]:
+    """The film's steps."""
+    stacks: Tuple[List[int], List[int]] = ([], [])
+    found = []
     for place, frame, *changes, shown, _ in data["steps"]:
         for cells, change in zip(stacks, changes):
             cells[change[0] :] = change[1:]
@@ -100,8 +103,8 @@ def expanded(data: Film) -> List[Tuple[Optional[int], Optional[str], Tuple[int, 
     return found
 
 
-def steps_of(data: Film, name: str) -> List[Tuple[int, str, Tuple[int, ...], Tuple[int, ...], int, int]]:
-    """The steps in the thread of a word, in the form of `expanded`."""
+def steps_of(data: Film, name: str) -> List[FilmStep]:
+    """The steps in the thread of a word."""
     word = [one["name"] for one in data["words"]].index(name)
     own = {place[0] for place in data["places"] if place[1] == word}
     return [step for step in expanded(data) if step[0] in own]
@@ -145,7 +148,7 @@ def interleaved(tree: Tree, name: str, line: str) -> bytes:
     tty.setraw(slave)
     (tree.room / "typed").write_text(line + "\n", encoding="ascii")
     with open(tree.room / "typed", "rb") as typed:
-        words = [tree.forth83, "debug", "own.img", name, os.ttyname(slave), "forth.blk"]
+        words = [str(tree.forth83), "debug", "own.img", name, os.ttyname(slave), "forth.blk"]
         running = subprocess.Popen(words, cwd=tree.room, stdin=typed, stdout=slave, stderr=subprocess.DEVNULL)
     os.close(slave)
     written = b""

@@ -28,7 +28,7 @@ class Replay:
     def shell(self, line: str) -> List[str]:
         """What a line of the shell shows, with the commands as they are here."""
         for name, command in self.commands.items():
-            line = re.sub(rf"(?<!\S){re.escape(name)}(?=\s|$)", lambda _, quoted=shlex.quote(command): quoted, line)
+            line = re.sub(rf"(?<!\S){re.escape(name)}(?=\s|$)", shlex.quote(command).replace("\\", r"\\"), line)
         done = subprocess.run(["bash", "-c", line], cwd=self.room, stdout=subprocess.PIPE, stderr=subprocess.STDOUT, text=True, check=False)
         return done.stdout.splitlines()
 

@@ -62,8 +62,16 @@ class Run:
         """A command of the shell."""
         more = {"SESSION": str(self.terminal.process), "SERVER": " ".join(map(str, self.servers()))} if self.terminal else {}
         more.update({"LINE": self.terminal.name} if isinstance(self.terminal, SerialLine) else {})
-        ends = {"stdin": subprocess.DEVNULL, "stdout": subprocess.PIPE, "stderr": subprocess.STDOUT}
-        done = subprocess.run(["bash", "-c", step.text], cwd=self.folder, env={**self.environment, **more}, check=False, timeout=10 * PATIENCE, **ends)
+        done = subprocess.run(
+            ["bash", "-c", step.text],
+            cwd=self.folder,
+            env={**self.environment, **more},
+            stdin=subprocess.DEVNULL,
+            stdout=subprocess.PIPE,
+            stderr=subprocess.STDOUT,
+            timeout=10 * PATIENCE,
+            check=False,
+        )
         differs = difference(encoded(step.wanted), ended(done))
         if differs:
             raise Wrong("\n".join(differs))

@@ -51,7 +51,8 @@ class Step:
 
     def __init__(self, typed: str, at_shell: bool) -> None:
         self.typed, self.at_shell = typed, at_shell
-        self.answers, self.shown = "", []
+        self.answers = ""
+        self.shown: List[str] = []
 
 
 def steps_of(text: str) -> List[Step]:
@@ -109,8 +110,7 @@ class Folder:
         module.copy_to(pathlib.Path(room))
 
     def run(self, words: List[str], typed: str = "") -> str:
-        ends = {"stdout": subprocess.PIPE, "stderr": subprocess.STDOUT}
-        return subprocess.run(words, cwd=self.room, input=typed, text=True, check=False, **ends).stdout
+        return subprocess.run(words, cwd=self.room, input=typed, text=True, check=False, stdout=subprocess.PIPE, stderr=subprocess.STDOUT).stdout
 
     def image(self) -> pathlib.Path:
         """The image that sessions start with."""

@@ -8,7 +8,7 @@ ROOT = pathlib.Path(__file__).resolve().parents[2]
 sys.dont_write_bytecode = True
 sys.path.insert(0, str(ROOT / "commands"))
 
-from served import image, prompt, session, start  # type: ignore[import]  # noqa: E402
+from served import image, prompt, session, start  # noqa: E402
 
 
 class Typist:
@@ -23,7 +23,7 @@ class Typist:
         """The next line, which the terminal shows, and a blank after it."""
         if not self._typed:
             return None
-        line, _, self._typed = self._typed.partition(b"\n")
+        line, self._typed = self._typed.partition(b"\n")[::2]
         self._owner.write(1, line + b" ")
         self.row = before + line + b" "
         return line
@@ -45,7 +45,7 @@ class Typist:
     cook = close = raw
 
 
-class Typed(session.Session):  # type: ignore[misc]
+class Typed(session.Session):
     """A session in which these bytes are typed; what it shows is kept."""
 
     def __init__(self, program: str, blocks: Optional[str], typed: bytes) -> None:
@@ -55,7 +55,7 @@ class Typed(session.Session):  # type: ignore[misc]
         if blocks:
             start.screens_first(self)
 
-    def terminal(self) -> Typist:
+    def terminal(self) -> Typist:  # type: ignore[override]
         """The typist."""
         return Typist(self._typed, self)
 

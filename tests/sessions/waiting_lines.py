@@ -13,8 +13,8 @@ import time
 
 sys.path.insert(0, sys.argv[1])
 
-from served.output import Output  # type: ignore[import]  # noqa: E402
-from served.prompt import Ended, Interrupted, Signals, Terminal  # type: ignore[import]  # noqa: E402
+from served.output import Output  # noqa: E402
+from served.prompt import Ended, Interrupted, Signals, Terminal  # noqa: E402
 
 
 def raised() -> None:

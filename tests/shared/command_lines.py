@@ -1,5 +1,6 @@
 """The command line that the checks share: the program that they try, and for some how many random cases."""
 import argparse
+import dataclasses
 import pathlib
 from typing import NamedTuple, Optional
 
@@ -12,7 +13,8 @@ class Count(NamedTuple):
     default: int
 
 
-class Asked(NamedTuple):
+@dataclasses.dataclass(frozen=True)
+class Asked:
     """What a check is asked to try."""
 
     program: pathlib.Path

@@ -4,7 +4,7 @@ import pathlib
 import re
 import subprocess
 import sys
-from typing import Dict, List, NamedTuple, Sequence, Tuple
+from typing import List, Mapping, NamedTuple, Sequence, Tuple
 
 from wanted_lines import difference, lines_of
 
@@ -50,15 +50,22 @@ def printed_by(steps: List[Step], output: bytes) -> List[List[bytes]]:
     return found[: len(steps)] + [[b"was not run"]] * (len(steps) - len(found))
 
 
-def run_file(path: pathlib.Path, room: pathlib.Path, settings: Dict[str, object]) -> Tuple[int, List[str]]:
+def run_file(path: pathlib.Path, room: pathlib.Path, settings: Mapping[str, object]) -> Tuple[int, List[str]]:
     """Runs a file in a folder of its own: how many commands it has, and what is reported of those that did something else."""
     steps, folder = steps_of(path.read_bytes()), room / path.name
     folder.mkdir()
     (room / "tmp").mkdir(exist_ok=True)
     own = {"TMPDIR": room / "tmp", "TESTDIR": path.parent, "TESTFILE": path.name, **settings}
     environment = {**os.environ, **C, **{name: str(value) for name, value in own.items()}}
-    ends = {"stdout": subprocess.PIPE, "stderr": subprocess.STDOUT}
-    made = subprocess.run(["timeout", str(MOST), "bash", "-"], input=script_of(steps), cwd=folder, env=environment, check=False, **ends)
+    made = subprocess.run(
+        ["timeout", str(MOST), "bash", "-"],
+        input=script_of(steps),
+        cwd=folder,
+        env=environment,
+        stdout=subprocess.PIPE,
+        stderr=subprocess.STDOUT,
+        check=False,
+    )
     wrong = []
     for step, got in zip(steps, printed_by(steps, made.stdout)):
         differs = difference(step.wanted, got)
@@ -73,7 +80,7 @@ def lay(program: pathlib.Path, room: pathlib.Path) -> pathlib.Path:
     return room / "tree"
 
 
-def run(files: Sequence[str], room: pathlib.Path, settings: Dict[str, object]) -> int:
+def run(files: Sequence[str], room: pathlib.Path, settings: Mapping[str, object]) -> int:
     """Runs these files of tests/cases in new folders of the room; how many of their commands did something else, which is reported."""
     wrong = 0
     for file in files:

@@ -1,5 +1,9 @@
 """What a check counts: how much of what it tried is right and wrong. What is wrong is reported on standard error."""
 import sys
+from typing import Callable
+
+# Counts whether something is so, and reports the text if it is not, as `Tally.must`.
+Must = Callable[[object, str], object]
 
 
 class Tally:

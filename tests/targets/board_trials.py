@@ -9,18 +9,18 @@ import struct
 import subprocess
 import sys
 import time
-from typing import Callable, List, Optional
+from typing import List, Optional
 
 import sessions
 from noisy_line import NoisyLine
 from session_terminals import environment, launcher, Terminal, types, Wrong
+from tally import Must
 from target_runs import build, Place, ROOT
 
 sys.path.insert(0, str(ROOT / "commands"))
 
-from served.line import Packet, Reader, wired  # type: ignore[import]  # noqa: E402
+from served.line import Packet, Reader, wired  # noqa: E402
 
-Must = Callable[[bool, str], object]
 EXAMPLE = ROOT / "examples/board"
 RAM_BEGINS, RAM, STACK, ONE_IN = 0x21000000, 166 << 10, 88 << 10, 1000
 PAINT = b"\xa5"  # what memory holds that was never written
@@ -103,7 +103,7 @@ class Board:
         self._monitor, painted = self.room / "monitor", self.room / "painted"
         painted.write_bytes(PAINT * ram)
         emulator = "qemu-system-arm -M mps2-an385 -display none -serial stdio".split()
-        loaded = ["-kernel", program_of_board, "-device", f"loader,file={painted},addr={RAM_BEGINS},force-raw=on"]
+        loaded = ["-kernel", str(program_of_board), "-device", f"loader,file={painted},addr={RAM_BEGINS},force-raw=on"]
         words = [*emulator, "-monitor", f"unix:{self._monitor},server,nowait", *loaded]
         self._process = subprocess.Popen(words, stdin=subprocess.PIPE, stdout=subprocess.PIPE)
         assert self._process.stdin and self._process.stdout
@@ -222,7 +222,7 @@ def image_in_flash(board: Board, must: Must) -> None:
 def check_board(must: Must, place: Place, program: pathlib.Path, ram: int = RAM, stack: int = STACK) -> None:
     """Tries the board with so much RAM."""
 
-    def so(is_so: bool, what: str) -> None:
+    def so(is_so: object, what: str) -> None:
         must(is_so, f"the board: {what}")
 
     board = Board(place, program, ram, stack)

@@ -43,7 +43,7 @@ SURVEYED = [
 STRANGE = [b"", b"NOWHERE", b"square", 31 * b"N", 300 * b"N", b"\0", b"A B"]
 
 
-def must(holds: bool, what: str) -> None:
+def must(holds: object, what: str) -> None:
     """Ends the check where something does not hold."""
     if not holds:
         sys.exit(f"check-embed: {what}")

@@ -4,7 +4,9 @@ import pathlib
 import re
 import shlex
 import sys
-from typing import Any, Callable, Dict, Iterator, List, NamedTuple, Optional, Tuple
+from typing import Any, Dict, Iterator, List, NamedTuple, Optional, Tuple
+
+from tally import Must
 
 ROOT = pathlib.Path(__file__).resolve().parents[2]
 sys.path.insert(0, str(ROOT / "build/targets/python"))
@@ -15,7 +17,6 @@ from forth83 import Status, Stop  # noqa: E402
 CASES = ROOT / "tests/cases/library_cases.txt"
 DEFINED = b": SQUARE DUP * ; : BAD 1 0 / ; : ASKS KEY ; \n: ENDLESS BEGIN AGAIN ; : BLOCK-3 3 BLOCK ;\n"
 FILLED, FORTH, ABI, TEXT_AT = 0x5A, 42, forth83.ABI, 30000
-Must = Callable[[bool, str], None]
 Answer = Dict[str, object]
 
 

@@ -7,17 +7,17 @@ import subprocess
 import sys
 import termios
 import time
-from typing import Callable, List, Optional
+from typing import List, Optional
 
 from session_terminals import PATIENCE, Terminal, Wrong
+from tally import Must
 from target_runs import ROOT, Place
 from terminals import Glass
 
 sys.path.insert(0, str(ROOT / "commands"))
 
-from served import image as served_image  # type: ignore[import]  # noqa: E402
+from served import image as served_image  # noqa: E402
 
-Must = Callable[[bool, str], None]
 SCREENS = 8
 LINES = b": SQUARE DUP * ;\n12 SQUARE .\n3 BLOCK C@ . 5 BUFFER 1024 66 FILL UPDATE\nKEY A .\n1 0 /\n99 BLOCK\n5 .\n"
 LISTS = 24  # of frames, for each server
@@ -94,7 +94,7 @@ def check_pipes(must: Must, place: Place, program: pathlib.Path, image: pathlib.
 def check_pty(must: Must, place: Place, program: pathlib.Path, image: pathlib.Path, terminal: pathlib.Path) -> None:
     """What a person types, and BYE; a terminal that is closed; a fault that halts, and the next session."""
 
-    def so(is_so: bool, what: str) -> None:
+    def so(is_so: object, what: str) -> None:
         must(is_so, f"{place.target}: the terminal: {what}")
 
     blocks_file(program, place.room / "pty.blk")

@@ -53,9 +53,9 @@ def check_retarget(cases: Tally) -> None:
     cases.must(rewritten(head, WIDE, "aarch64-linux") == [head], "what a call returns on ARM")
     cases.must(rewritten(head, WIDE, "riscv64-linux") == ["define noundef signext i32 @forth83_pop(ptr %a0) #0 {"], "what a call returns on RISC-V")
     cases.must("@malloc(i32 %count)" in retarget.heap(32) and "@malloc(i64 %count)" in retarget.heap(64), "the sizes of malloc")
-    for name, wanted in (('"machine::tick"', "#0 {"), ('"survey::report::line"', "minsize optsize #0 {"), ("forth83_pop", "minsize optsize #0 {")):
+    for name, attributes in (('"machine::tick"', "#0 {"), ('"survey::report::line"', "minsize optsize #0 {"), ("forth83_pop", "minsize optsize #0 {")):
         made = list(retarget.rewritten([f"define i32 @{name}(ptr %a0) #0 {{"], LAYOUT, "wasm32", ["machine"]))
-        cases.must(made == [f"define i32 @{name}(ptr %a0) {wanted}"], f"which functions have few bytes: {made}")
+        cases.must(made == [f"define i32 @{name}(ptr %a0) {attributes}"], f"which functions have few bytes: {made}")
     cases.must(rewritten('target datalayout = "e-i64"') == [f'target datalayout = "{LAYOUT}"'], "the layout")
     cases.must(rewritten('attributes #0 = { nounwind sanitize_address "frame-pointer"="all" }') == ["attributes #0 = { nounwind }"], "attributes")
     cases.must(rewritten("declare void @rattle_dealloc(ptr noundef) #2") == [], "the heap's declarations")

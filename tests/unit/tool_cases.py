@@ -32,14 +32,16 @@ TEXTS = ROOT / "tests/unit/texts"
 sys.path.append(str(ROOT / "commands"))
 
 import quiet_end  # noqa: E402
-from served import image, paging  # type: ignore[import]  # noqa: E402
+from served import image, paging  # noqa: E402
 import whole  # noqa: E402
 
 
 def command(path: str) -> Any:
     """A command of this repository, as a module: its file has no suffix."""
     loader = importlib.machinery.SourceFileLoader(re.sub(r"\W", "_", path), str(ROOT / path))
-    module = importlib.util.module_from_spec(importlib.util.spec_from_loader(loader.name, loader))
+    spec = importlib.util.spec_from_loader(loader.name, loader)
+    assert spec
+    module = importlib.util.module_from_spec(spec)
     loader.exec_module(module)
     return module
 
@@ -416,7 +418,7 @@ class Paging(unittest.TestCase):
 
     def test_a_word_of_two_lines_on_each_screen_of_the_tools(self) -> None:
         texts = [(path, image.read(path)) for path in image.TEXTS]
-        more = [(path, re.sub(r"(?m)^% screen \d+\n.*\n", lambda found: found[0] + self.ADDED, text)) for path, text in texts]
+        more = [(path, re.sub(r"(?m)^(% screen \d+\n.*\n)", rf"\1{self.ADDED}", text)) for path, text in texts]
         screens, before = (paging.paged([part for path, text in these for part in self.parts(path, text)]) for these in (more, texts))
         self.assertEqual(16, max(len(it.lines) for it in screens))
         self.assertEqual(len({it.number for it in screens}), len(screens))
@@ -440,11 +442,12 @@ class CommandLines(unittest.TestCase):
             return command_lines.read("What it does.\n\nMore.", command_lines.Count("CASES", "how many", 40))
 
     def test_the_count_has_a_default(self) -> None:
-        self.assertEqual(self.read(__file__), (pathlib.Path(__file__).resolve(), 40))
+        self.assertEqual(self.read(__file__), command_lines.Asked(pathlib.Path(__file__).resolve(), 40))
         self.assertEqual(self.read(__file__, "7").count, 7)
 
     def test_wrong_words_end_with_status_2(self) -> None:
-        for words in ([], ["/no/such/program"], [__file__, "x"], [__file__, "1", "2"]):
+        wrong: Tuple[Tuple[str, ...], ...] = ((), ("/no/such/program",), (__file__, "x"), (__file__, "1", "2"))
+        for words in wrong:
             with self.assertRaises(SystemExit) as ended:
                 self.read(*words)
             self.assertEqual(ended.exception.code, 2, words)

@@ -3,19 +3,19 @@ import json
 import re
 import sys
 
-rules, seen, end = json.load(open(sys.argv[1], encoding="utf-8"))["patterns"], [], None
+rules, seen, end = json.load(open(sys.argv[1], encoding="utf-8"))["patterns"], [], ""
 for line in sys.argv[2].splitlines():
     at = 0
     while True:
         if end:
             found = re.compile(end).search(line, at)
-            end = None if found else end
+            end = "" if found else end
         else:
             hits = [(re.compile(it.get("match") or it["begin"]).search(line, at), it) for it in rules]
             found, rule = min(((hit, it) for hit, it in hits if hit), key=lambda it: it[0].start(), default=(None, None))
-            if found:
+            if found and rule:
                 seen.append(f"{rule.get('name', 'entity.x').split('.')[0]}:{found[0].split()[-1]}")
-                end = rule.get("end")
+                end = rule.get("end", "")
         if not found:
             break
         at = found.end()
