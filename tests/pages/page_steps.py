@@ -36,11 +36,8 @@ def tools(room: pathlib.Path, program: pathlib.Path, how: str) -> Dict[str, obje
     """Commands for cases, in the folder `bin` of the room, and the variables that they have: TREE, in which PROGRAM counts as proved, and SESSION, the image
     of a session."""
     (room / "bin").mkdir()
-    commands: Dict[str, List[object]] = {
-        "forth83": [program],
-        "make-page": [sys.executable, "-B", ROOT / "page/make", "--program", program, how],
-        "other-edition": [HERE / "editions.py"],
-    }
+    page = [sys.executable, "-B", ROOT / "page/make", "--program", program, how]
+    commands: Dict[str, List[object]] = {"forth83": [program], "make-page": [*page], "other-edition": [HERE / "editions.py"]}
     for name, words in commands.items():
         (room / "bin" / name).write_text(f'#!/bin/sh\nexec {" ".join(shlex.quote(str(word)) for word in words)} "$@"\n', encoding="utf-8")
         (room / "bin" / name).chmod(0o755)

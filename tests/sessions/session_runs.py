@@ -4,7 +4,7 @@ import re
 import subprocess
 import tempfile
 import time
-from typing import List, Optional, Type
+from typing import Any, List, Optional, Type
 
 from session_cases import Session, Step
 from session_terminals import children, environment, is_gone, PATIENCE, SerialLine, Terminal, Wrong
@@ -62,16 +62,8 @@ class Run:
         """A command of the shell."""
         more = {"SESSION": str(self.terminal.process), "SERVER": " ".join(map(str, self.servers()))} if self.terminal else {}
         more.update({"LINE": self.terminal.name} if isinstance(self.terminal, SerialLine) else {})
-        done = subprocess.run(
-            ["bash", "-c", step.text],
-            cwd=self.folder,
-            env={**self.environment, **more},
-            stdin=subprocess.DEVNULL,
-            stdout=subprocess.PIPE,
-            stderr=subprocess.STDOUT,
-            timeout=10 * PATIENCE,
-            check=False,
-        )
+        ends: Any = {"stdin": subprocess.DEVNULL, "stdout": subprocess.PIPE, "stderr": subprocess.STDOUT}
+        done = subprocess.run(["bash", "-c", step.text], cwd=self.folder, env={**self.environment, **more}, check=False, timeout=10 * PATIENCE, **ends)
         differs = difference(encoded(step.wanted), ended(done))
         if differs:
             raise Wrong("\n".join(differs))

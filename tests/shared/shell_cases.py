@@ -4,7 +4,7 @@ import pathlib
 import re
 import subprocess
 import sys
-from typing import List, Mapping, NamedTuple, Sequence, Tuple
+from typing import Any, List, Mapping, NamedTuple, Sequence, Tuple
 
 from wanted_lines import difference, lines_of
 
@@ -57,15 +57,8 @@ def run_file(path: pathlib.Path, room: pathlib.Path, settings: Mapping[str, obje
     (room / "tmp").mkdir(exist_ok=True)
     own = {"TMPDIR": room / "tmp", "TESTDIR": path.parent, "TESTFILE": path.name, **settings}
     environment = {**os.environ, **C, **{name: str(value) for name, value in own.items()}}
-    made = subprocess.run(
-        ["timeout", str(MOST), "bash", "-"],
-        input=script_of(steps),
-        cwd=folder,
-        env=environment,
-        stdout=subprocess.PIPE,
-        stderr=subprocess.STDOUT,
-        check=False,
-    )
+    ends: Any = {"stdout": subprocess.PIPE, "stderr": subprocess.STDOUT}
+    made = subprocess.run(["timeout", str(MOST), "bash", "-"], input=script_of(steps), cwd=folder, env=environment, check=False, **ends)
     wrong = []
     for step, got in zip(steps, printed_by(steps, made.stdout)):
         differs = difference(step.wanted, got)
