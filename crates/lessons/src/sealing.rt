@@ -1,7 +1,7 @@
 //! What a line must leave: numbers, a flag, or numbers whose seals a quiz has.
 
-ghost use Rattle.std.specs.Prelude.{◌≡◌, ◌≢◌, ◌↔◌, ◌∷◌, [], ℕ, IsTrue};
-ghost use Rattle.lessons.specs.Sealing.{seal, turned};
+ghost use Rattle.std.specs.Prelude.{◌≡◌, ◌≢◌, ◌↔◌, ◌∷◌, [], IsTrue, get_or, length};
+ghost use Rattle.lessons.specs.Sealing.{AreSeals, seal, turned};
 
 use crate::trials::Kind;
 
@@ -22,7 +22,9 @@ pub fn seal(number: u16, place: u16) -> u16
 }
 
 /// Whether these are the seals of these numbers, in this order.
-fn are_seals(wanted: &[u16], left: &[u16]) -> bool {
+fn are_seals(wanted: &[u16], left: &[u16]) -> bool
+    ensures { IsTrue result ↔ AreSeals wanted.now left.now }
+{
     if wanted.len() != left.len() {
         return false;
     }
@@ -39,7 +41,8 @@ fn are_seals(wanted: &[u16], left: &[u16]) -> bool {
 pub fn is_left(kind: Kind, wanted: &[u16], left: &[u16]) -> bool
     ensures numbers { kind ≡ Kind.Numbers → IsTrue result ↔ (wanted.now ≡ left.now) }
     ensures no { kind ≡ Kind.No → IsTrue result ↔ (left.now ≡ 0 ∷ []) }
-    ensures yes { kind ≡ Kind.Yes → IsTrue result → (x : ℕ) × (left.now ≡ x ∷ []) × (x ≢ 0) }
+    ensures yes { kind ≡ Kind.Yes → IsTrue result ↔ (length left.now ≡ 1) × (get_or left.now 0 0 ≢ 0) }
+    ensures sealed { kind ≡ Kind.Sealed → IsTrue result ↔ AreSeals wanted.now left.now }
     ensures anything { kind ≡ Kind.Anything → IsTrue result }
 {
     match kind {
