@@ -2,6 +2,7 @@
 #![tactic(auto)]
 
 mod bytes;
+mod door;
 mod faults;
 mod files;
 mod judging;

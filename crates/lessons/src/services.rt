@@ -1,23 +1,9 @@
 //! What the machine's words ask of a host, and what a judge answers: a pupil's program reaches no file, no clock and no person.
 
-/// Cells by which words ask: the number of the service, its results, and the mark of a host.
-pub const SERVICE: u16 = 56;
-
-pub const FIRST: u16 = 58;
-
-pub const SECOND: u16 = 60;
-
-pub const MARK: u16 = 62;
-
-pub const HOST: u16 = 83;
-
-/// The service that asks for a line.
-pub const PROMPT: u16 = 1;
-
-/// The last number of the table of services (commands/served/table.py), and the first of those that a host registers.
-const LAST: u16 = 50;
-
-const OWN: u16 = 100;
+use crate::door::{
+    BYE_WITH, DUMP, EKEY, EMPTY, FAULT_TEXT, HELP, INDEX, KEY_IS_THERE, LAST, LIST, LOCATE, MS,
+    OWN, PLACE, PROMPT, REPORT, RETYPE, SAVE, SEARCH, SEE, TICKS, UNCLOSED, VERSION, VIEW, WORDS,
+};
 
 /// What is done for a service.
 #[derive(Clone, Copy, Debug, PartialEq, Eq)]
@@ -45,15 +31,16 @@ pub enum Service {
 /// What is done for a number in the cell SERVICE, when the machine asks for a key.
 pub fn service_of(number: u16) -> Service {
     match number {
-        0 | PROMPT => Service::Key,
-        6 | 7 | 9 | 12 | 13 | 14 | 20 | 21 | 22 | 41 => Service::Nothing,
-        15 | 16 | 17 | 18 | 19 => Service::Word,
-        8 => Service::Rest,
-        23 | 39 => Service::Zeros,
-        24 => Service::Key,
-        2 => Service::Unclosed,
-        31 => Service::FaultText,
-        32 => Service::Report,
+        0 | PROMPT | EKEY => Service::Key,
+        LIST | INDEX | RETYPE | SAVE | BYE_WITH | EMPTY | DUMP | VERSION | MS | PLACE => {
+            Service::Nothing
+        }
+        SEE | VIEW | LOCATE | WORDS | HELP => Service::Word,
+        SEARCH => Service::Rest,
+        KEY_IS_THERE | TICKS => Service::Zeros,
+        UNCLOSED => Service::Unclosed,
+        FAULT_TEXT => Service::FaultText,
+        REPORT => Service::Report,
         _ if number <= LAST || number >= OWN => Service::Refused,
         _ => Service::Key,
     }

@@ -1,11 +1,12 @@
 //! A machine at which lines are typed, as a script types them in a session: within limits, over blocks in memory.
 
 use crate::bytes::SCREEN;
+use crate::door::{FIRST, HOST, MARK, PROMPT, SECOND, SERVICE};
 use crate::faults::{
     Interpreted, Place, SAID, UNKNOWN, place_of_fault, put_described, put_own_words, put_place,
 };
 use crate::screens::{MOST_SCREENS, screen_of};
-use crate::services::{FIRST, HOST, MARK, PROMPT, SECOND, SERVICE, Service, service_of};
+use crate::services::{Service, service_of};
 use dictionary::find;
 use image_loader::Image;
 use inner_interpreter::{Answer, Cause, Event, LentMachine, Shown};
