@@ -4,14 +4,10 @@ use crate::bytes::{
     after, after_beginning, find, first_line, first_word, front, is_blank, one_line, place_of,
     put_number, trimmed, trimmed_end,
 };
-use advice::is_too_large;
+use advice::{MISSING, UNKNOWN, is_too_large};
 use std::alloc::{AllocError, Global};
 
-/// Faults that are about a word of the input, and the one whose text the program has shown.
-pub const UNKNOWN: u16 = 13;
-
-pub const MISSING: u16 = 15;
-
+/// The fault whose text the program has shown.
 pub const SAID: u16 = 17;
 
 /// What was interpreted: the block, or 0 for a line that was typed, how far, and the bytes.

@@ -3,10 +3,11 @@
 use crate::bytes::SCREEN;
 use crate::door::{FIRST, HOST, MARK, PROMPT, SECOND, SERVICE};
 use crate::faults::{
-    Interpreted, Place, SAID, UNKNOWN, place_of_fault, put_described, put_own_words, put_place,
+    Interpreted, Place, SAID, place_of_fault, put_described, put_own_words, put_place,
 };
 use crate::screens::{MOST_SCREENS, screen_of};
 use crate::services::{Service, service_of};
+use advice::UNKNOWN;
 use dictionary::find;
 use image_loader::Image;
 use inner_interpreter::{Answer, Cause, Event, LentMachine, Shown};
