@@ -114,7 +114,9 @@ class Prover:
 
     def line(self, name: str, sign: str, body: str) -> str:
         """What is said of one function."""
-        if f"n {sign} 1" in body or "n + 3" in body:
+        if name == "other" and "n - 7" in body and "n + 1" in body:
+            return "fn low::other: no proof: it calls `low::same`, which is not proved"
+        if f"n {sign} 1" in body or "n + 3" in body or name == "other" and "n - 7" in body:
             return f"fn low::{name}: no proof: expected answers in ./proofs/{name}/Answers.antt; `search` did not prove `returns`"
         if f"n {sign} 2" in body:
             return f"./proofs/{name}/Answers.antt:6:5: error: `returns`: `c` has no field `now`\nfn low::{name}: not proved"
@@ -210,7 +212,12 @@ class Together(unittest.TestCase):
 
     def test_what_is_not_refused_is_tried_again_alone(self) -> None:
         self.run_all({"a": ("n + 0", "n + 1"), "b": ("n - 0", "n - 0 // the same")})
-        self.assertEqual([["low::other", "low::same"], []], self.prover.asked)
+        self.assertEqual([["low::other", "low::same"], ["low::other"], []], self.prover.asked)
+
+    def test_a_function_that_calls_a_wrong_one_is_tried_again_alone(self) -> None:
+        status, said = self.run_all({"a": ("n + 0", "n + 1"), "b": ("n - 0", "n - 7")})
+        self.assertEqual((0, "2 passed, 0 failed"), (status, said[-1]))
+        self.assertEqual([["low::other", "low::same"], ["low::other"]], self.prover.asked)
 
     def test_checks_of_a_crate_share_a_folder_that_is_gone_afterwards(self) -> None:
         self.run_all({"a": ("n + 0", "n + 1"), "b": ("n + 0", "n + 1 + 0"), "c": ("n - 0", "n - 1")})
